@@ -1,0 +1,6 @@
+pub mod Fields
+pub mod Kinds
+pub mod Reading
+pub mod Refusals
+pub mod Trips
+pub mod Writing
