@@ -1,0 +1,72 @@
+// Reads left.reg, right.reg and draft.rec in the current folder, and prints what they hold, or the first fault.
+use records::ConditionRecord;
+use records::Conditions;
+use records::Kind;
+use records::TripleRecord;
+use records::Triples;
+use report::FileFaultTold;
+use report::OpenError;
+use report::Source;
+use report::count_kind;
+use report::draft_line;
+use report::fault_line;
+use report::open;
+use report::register_line;
+use std::fs;
+use std::io;
+use std::io::Read;
+
+// One byte more than a file may have shows that it is too long.
+const ENOUGH: u64 = report::file::LONGEST as u64 + 1;
+
+// A file that does not open counts as empty.
+fn contents(rt: &LibcRuntime, path: &str) -> io::Result<Vec<u8>> {
+    let mut bytes = Vec::new(rt.alloc());
+    let Ok(file) = fs::open(rt, path) else {
+        return Ok(bytes);
+    };
+    file.take(ENOUGH).read_to_end(&mut bytes)?;
+    Ok(bytes)
+}
+
+// What was opened; a refused file prints its fault line and gives nothing.
+fn accepted<T: Drop>(
+    rt: &LibcRuntime,
+    source: Source,
+    opened: Result<T, OpenError>,
+) -> io::Result<Option<T>> {
+    match opened {
+        Ok(records) => Ok(Some(records)),
+        Err(OpenError::Fault(fault)) => {
+            rt.print(fault_line(rt.alloc(), source, &fault)?)?;
+            Ok(None)
+        }
+        Err(OpenError::NoMemory) => Err(std::alloc::AllocError.into()),
+    }
+}
+
+fn main(rt: LibcRuntime) -> io::Result<()> {
+    let heap = rt.alloc();
+    let left = contents(&rt, "left.reg")?;
+    let right = contents(&rt, "right.reg")?;
+    let draft = contents(&rt, "draft.rec")?;
+    let Some(left) = accepted(&rt, Source::Left, open::<Triples>(heap, left.as_slice()))? else {
+        return Ok(());
+    };
+    let Some(right) = accepted(&rt, Source::Right, open::<Triples>(heap, right.as_slice()))? else {
+        return Ok(());
+    };
+    let Some(draft) = accepted(
+        &rt,
+        Source::Draft,
+        open::<Conditions>(heap, draft.as_slice()),
+    )?
+    else {
+        return Ok(());
+    };
+    rt.print(register_line(heap, Source::Left, left.len())?)?;
+    rt.print(register_line(heap, Source::Right, right.len())?)?;
+    let equal = count_kind(draft.as_slice(), Kind::Equal);
+    let share = count_kind(draft.as_slice(), Kind::Share);
+    rt.print(draft_line(heap, equal, share)?)
+}

@@ -1,0 +1,15 @@
+// What the program makes of its files: records or a fault, and the bytes of every line that it prints.
+
+pub mod file;
+pub mod lines;
+pub mod source;
+
+pub use file::FileFault;
+pub use file::FileFaultTold;
+pub use file::OpenError;
+pub use file::count_kind;
+pub use file::open;
+pub use lines::draft_line;
+pub use lines::fault_line;
+pub use lines::register_line;
+pub use source::Source;
