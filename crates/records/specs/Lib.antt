@@ -1,5 +1,6 @@
 pub mod Fields
 pub mod Kinds
+pub mod Questions
 pub mod Reading
 pub mod Refusals
 pub mod Trips

@@ -32,3 +32,6 @@ pub use record::read;
 pub use record::write;
 pub use round_trip::reads_back;
 pub use round_trip::writes_back;
+
+#[cfg(test)]
+mod tests;

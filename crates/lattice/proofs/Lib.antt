@@ -1,0 +1,10 @@
+pub mod Ascending
+pub mod Bits
+pub mod Closures
+pub mod Conditions
+pub mod Filters
+pub mod Meets
+pub mod Order
+pub mod Raising
+pub mod Search
+pub mod Steps

@@ -1,0 +1,4 @@
+pub mod FoldingSteps
+pub mod Growth
+pub mod Settling
+pub mod Soundness

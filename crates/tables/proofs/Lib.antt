@@ -1,0 +1,7 @@
+pub mod Entries
+pub mod Ordering
+pub mod Questions
+pub mod Rows
+pub mod Spans
+pub mod Ticks
+pub mod Triples
