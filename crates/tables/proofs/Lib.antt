@@ -1,6 +1,5 @@
 pub mod Entries
 pub mod Ordering
-pub mod Questions
 pub mod Rows
 pub mod Spans
 pub mod Ticks

@@ -18,7 +18,7 @@ use Rattle.records.specs.Refusals.{Refusal}
 use Rattle.records.specs.Questions.{first-no}
 use Rattle.tables.specs.TickSheet.{row, presence-word, tick-word, all-zero, clear-if-absent, row-fault, rows-fault, sheet-fault, sheet, ticked, Consistent}
 use Rattle.tables.proofs.Ticks.{ticked-zero}
-use Rattle.tables.proofs.Questions.{answered, both-answered}
+use Rattle.records.proofs.Questions.{answered, both-answered}
 
 -- words that are all 0
 pub zero-here : (ws : List ℕ) (i : ℕ) → i < length ws → (getD ws i 0 ≡ 0 → ⊥) → all-zero (drop i ws) ≡ false

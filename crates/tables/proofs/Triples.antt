@@ -17,7 +17,7 @@ use Rattle.records.specs.declared.kinds.triple.Triple.{Triple}
 use Rattle.records.specs.Questions.{first-no}
 use Rattle.tables.specs.Register.{triples-in, follows, comes-before, triple-fault, triples-fault, register-fault}
 use Rattle.tables.specs.RegisterSearch.{triple-at}
-use Rattle.tables.proofs.Questions.{answered, both-answered}
+use Rattle.records.proofs.Questions.{answered, both-answered}
 
 -- the triples, by their numbers
 pub triples-by-number : (xs : List ℕ) → triples-in xs ≡ map (triple-at xs) (counting 0 (length xs / 12))

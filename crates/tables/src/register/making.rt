@@ -64,7 +64,7 @@ fn check_record(
     Ok(())
 }
 
-// Asks every question of the bytes, in order. Of bytes it is known that each is below 256.
+// Asks every question of the bytes, in order. It also says what the type is to keep: each byte is below 256.
 fn check(bytes: &[u8], subjects: usize, properties: usize) -> Result<(), RegisterFault>
     ensures answer { λ r. ⌜ Checked register-refusal (register-fault (now (bytes .entry)) subjects properties) r ⌝ }
     ensures small { λ _. ⌜ ((i : ℕ) → getD (now (bytes .entry)) i 0 < 256) ⌝ }

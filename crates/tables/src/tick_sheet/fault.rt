@@ -12,7 +12,7 @@ pub impl Fault for SheetFault as SheetFaultTold {
             SheetFault::TooManyProperties => 3,
             SheetFault::WrongLength => 8,
             SheetFault::UnknownPresence { .. } => 9,
-            SheetFault::AbsentTicked { .. } => 9,
+            SheetFault::AbsentTicked { .. } => 10,
         }
     }
 
