@@ -24,7 +24,7 @@ pub triples-by-number : (xs : List ℕ) → triples-in xs ≡ map (triple-at xs)
 unfolding triples-in triple-at
 triples-by-number xs = refl
 
--- the first "no" to the triples f k, f (k + 1), .. below c: at a triple that is refused, at one that passes, and at the end
+-- the first "no" to the triples f k, f (k + 1), .. below c: at a triple that is refused, and at one that passes
 fault-step : (f : ℕ → Triple) (n m k c : ℕ) (before : Option Triple) → k < c → triples-fault n m k before (map f (counting k (c - k))) ≡ first-no (triple-fault n m k before (f k)) (triples-fault n m (k + 1) (Some (f k)) (map f (counting (k + 1) (c - (k + 1)))))
 fault-step f n m k c before l =
     let q : c - k ≡ suc (c - (k + 1)) = omega arith in
@@ -37,11 +37,6 @@ fault-here f n m k c before e l h =
 pub fault-next : (f : ℕ → Triple) (n m k c : ℕ) (before : Option Triple) → k < c → triple-fault n m k before (f k) ≡ None → triples-fault n m k before (map f (counting k (c - k))) ≡ triples-fault n m (k + 1) (Some (f k)) (map f (counting (k + 1) (c - (k + 1))))
 fault-next f n m k c before l h =
     fault-step f n m k c before l ∙ ap (λ (o : Option Refusal). first-no o (triples-fault n m (k + 1) (Some (f k)) (map f (counting (k + 1) (c - (k + 1)))))) h
-
-pub fault-end : (f : ℕ → Triple) (n m k c : ℕ) (before : Option Triple) → c ≤ k → triples-fault n m k before (map f (counting k (c - k))) ≡ None
-fault-end f n m k c before l =
-    let q : c - k ≡ 0 = omega arith in
-    ap (λ (z : ℕ). triples-fault n m k before (map f (counting k z))) q
 
 -- where the questions to the whole file are answered yes, those to its triples are left
 pub fault-begin : (xs : List ℕ) (n m : ℕ) → length xs % 12 ≡ 0 → n ≤ 2048 → m ≤ 64 → length xs / 12 ≤ 65536 → triples-fault n m 0 None (map (triple-at xs) (counting 0 (length xs / 12 - 0))) ≡ register-fault xs n m

@@ -25,9 +25,11 @@ ticked w = kept-by (is-ticked w) (counting 0 64)
 abbrev pub row : List ℕ → ℕ → ℕ → List ℕ
 row ws m s = take (m + 1) (drop (s * (m + 1)) ws)
 
+-- The first of the words of a subject: 1 or 0.
 abbrev pub presence-word : List ℕ → ℕ
 presence-word r = getD r 0 0
 
+-- The word of a subject that ticks its values at property p.
 abbrev pub tick-word : List ℕ → ℕ → ℕ
 tick-word r p = getD r (p + 1) 0
 
