@@ -2,8 +2,6 @@
 use records::ConditionRecord;
 use records::Conditions;
 use records::Kind;
-use records::TripleRecord;
-use records::Triples;
 use report::FileFaultTold;
 use report::OpenError;
 use report::Source;
@@ -11,10 +9,13 @@ use report::count_kind;
 use report::draft_line;
 use report::fault_line;
 use report::open;
+use report::open_register;
 use report::register_line;
 use std::fs;
 use std::io;
 use std::io::Read;
+use tables::RegisterTable;
+use tables::Table;
 
 // One byte more than a file may have shows that it is too long.
 const ENOUGH: u64 = report::file::LONGEST as u64 + 1;
@@ -47,15 +48,15 @@ fn accepted<T: Drop>(
 
 fn main(rt: LibcRuntime) -> io::Result<()> {
     let heap = rt.alloc();
-    let left = contents(&rt, "left.reg")?;
-    let right = contents(&rt, "right.reg")?;
+    let left = open_register(heap, contents(&rt, "left.reg")?);
+    let Some(left) = accepted(&rt, Source::Left, left)? else {
+        return Ok(());
+    };
+    let right = open_register(heap, contents(&rt, "right.reg")?);
+    let Some(right) = accepted(&rt, Source::Right, right)? else {
+        return Ok(());
+    };
     let draft = contents(&rt, "draft.rec")?;
-    let Some(left) = accepted(&rt, Source::Left, open::<Triples>(heap, left.as_slice()))? else {
-        return Ok(());
-    };
-    let Some(right) = accepted(&rt, Source::Right, open::<Triples>(heap, right.as_slice()))? else {
-        return Ok(());
-    };
     let Some(draft) = accepted(
         &rt,
         Source::Draft,
@@ -64,8 +65,8 @@ fn main(rt: LibcRuntime) -> io::Result<()> {
     else {
         return Ok(());
     };
-    rt.print(register_line(heap, Source::Left, left.len())?)?;
-    rt.print(register_line(heap, Source::Right, right.len())?)?;
+    rt.print(register_line(heap, Source::Left, left.subjects(), left.properties())?)?;
+    rt.print(register_line(heap, Source::Right, right.subjects(), right.properties())?)?;
     let equal = count_kind(draft.as_slice(), Kind::Equal);
     let share = count_kind(draft.as_slice(), Kind::Share);
     rt.print(draft_line(heap, equal, share)?)

@@ -1,1 +1,3 @@
+pub mod Bounding
 pub mod Opening
+pub mod Registering

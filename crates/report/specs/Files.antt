@@ -1,6 +1,6 @@
 use Prim.Native.Nat.{ℕ, _+_, _%_}
 use mathlib.Core.Path.{_≡_}
-use mathlib.Core.Bool.{Bool, cond}
+use mathlib.Core.Bool.{Bool}
 use mathlib.Core.List.{List, [], _∷_}
 use lib.Dec.{leb, eqb}
 use lib.ListN.{length}
@@ -13,32 +13,33 @@ use Rattle.std.specs.declared.result.Result.{Result}
 use Rattle.std.specs.declared.result.Result.the-variants.{Ok, Err}
 use Rattle.std.specs.declared.vec.Vec.{Vec}
 use Rattle.records.specs.Kinds.{kind-number}
+use Rattle.records.specs.Questions.{ask}
 use Rattle.records.specs.Reading.{bodies}
 use Rattle.records.specs.Refusals.{Refusal, read-refusal}
 use Rattle.records.specs.declared.kinds.condition.Condition.{Condition}
 use Rattle.records.specs.declared.kinds.condition.Kind.{Kind}
+use Rattle.tables.specs.RegisterRefusals.{register-refusal}
 use Rattle.report.specs.declared.file.FileFault.{FileFault}
-use Rattle.report.specs.declared.file.FileFault.the-variants.{TooLong, Ragged, Unread}
+use Rattle.report.specs.declared.file.FileFault.the-variants.{TooLong, Ragged, Unread, Unregistered}
 use Rattle.report.specs.declared.file.OpenError.{OpenError}
 use Rattle.report.specs.declared.file.OpenError.the-variants.{Fault, NoMemory}
 
--- A file: 4 where it is too long, 1 where its length is no multiple of the record's size, else the refusal of a record.
+-- A file: 4 where it is too long, 1 where its length is no multiple of the record's size, else the refusal of a record or of the register.
 abbrev pub file-refusal : FileFault → Refusal
 file-refusal TooLong = (4, 0)
 file-refusal Ragged = (1, 0)
 file-refusal (Unread e) = read-refusal e
+file-refusal (Unregistered e) = register-refusal e
 
 -- The first of some bodies that its kind does not allow gives 30, with its number; i is the number of the first.
 abbrev pub body-fault : {B : Type 0} → (B → Bool) → ℕ → List B → Option Refusal
 body-fault allowed i [] = None
-body-fault allowed i (b ∷ bs) = cond (allowed b) (body-fault allowed (i + 1) bs) (Some (30, i))
+body-fault allowed i (b ∷ bs) = ask (allowed b) (30, i) (body-fault allowed (i + 1) bs)
 
 -- The first no to a file: at most 65,532 bytes, a multiple of the record's size, and every body allowed.
 abbrev pub file-fault : {B : Type 0} → (List ℕ → B) → (B → Bool) → ℕ → List ℕ → Option Refusal
 file-fault made allowed size xs =
-    cond (leb (length xs) 65532)
-    (cond (eqb (length xs % size) 0) (body-fault allowed 0 (bodies made size xs)) (Some (1, 0)))
-    (Some (4, 0))
+    ask (leb (length xs) 65532) (4, 0) (ask (eqb (length xs % size) 0) (1, 0) (body-fault allowed 0 (bodies made size xs)))
 
 -- What opening a file gives: its bodies where there is no no, else the fault; or no memory.
 abbrev pub Opened : {B : Type 0} → (List ℕ → B) → (B → Bool) → ℕ → List ℕ → Result (Vec B Global) OpenError → Type 0

@@ -12,10 +12,10 @@ source-name Left = codes "left"
 source-name Right = codes "right"
 source-name Draft = codes "draft"
 
--- `read 7 records of left`, and a line feed.
-abbrev pub register-line : Source → ℕ → List ℕ
-register-line source n =
-    codes "read " ++ (decimal n ++ (codes " records of " ++ (source-name source ++ 10 ∷ [])))
+-- `read 3 subjects and 2 properties of left`, and a line feed.
+abbrev pub register-line : Source → ℕ → ℕ → List ℕ
+register-line source subjects properties =
+    codes "read " ++ (decimal subjects ++ (codes " subjects and " ++ (decimal properties ++ (codes " properties of " ++ (source-name source ++ 10 ∷ [])))))
 
 -- `read 4 equal and 4 share conditions of draft`, and a line feed.
 abbrev pub draft-line : ℕ → ℕ → List ℕ

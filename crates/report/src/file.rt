@@ -12,6 +12,10 @@ use records::fault::ReadFaultDebug;
 use records::fault::ReadFaultPartialEq;
 use records::read;
 use std::alloc::Global;
+use tables::RegisterFault;
+use tables::RegisterFaultTold;
+use tables::register::RegisterFaultDebug;
+use tables::register::RegisterFaultPartialEq;
 
 // The most bytes that a file may have.
 pub const LONGEST: usize = 65532;
@@ -22,6 +26,7 @@ pub enum FileFault {
     TooLong,
     Ragged,
     Unread(ReadFault),
+    Unregistered(RegisterFault),
 }
 
 pub impl Fault for FileFault as FileFaultTold {
@@ -32,6 +37,7 @@ pub impl Fault for FileFault as FileFaultTold {
             FileFault::TooLong => 4,
             FileFault::Ragged => 1,
             FileFault::Unread(fault) => fault.number(),
+            FileFault::Unregistered(fault) => fault.number(),
         }
     }
 
@@ -39,6 +45,7 @@ pub impl Fault for FileFault as FileFaultTold {
         match *self {
             FileFault::TooLong | FileFault::Ragged => 0,
             FileFault::Unread(fault) => fault.place(),
+            FileFault::Unregistered(fault) => fault.place(),
         }
     }
 }

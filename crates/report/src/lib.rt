@@ -2,6 +2,7 @@
 
 pub mod file;
 pub mod lines;
+pub mod register;
 pub mod source;
 
 pub use file::FileFault;
@@ -12,4 +13,5 @@ pub use file::open;
 pub use lines::draft_line;
 pub use lines::fault_line;
 pub use lines::register_line;
+pub use register::open_register;
 pub use source::Source;

@@ -8,12 +8,20 @@ use records::Fault;
 use std::alloc::AllocError;
 use std::alloc::Global;
 
-// How many records a register has.
-pub fn register_line(heap: Global, source: Source, count: usize) -> Result<String, AllocError>
-    ensures { λ r. ⌜ made r (λ s. string-bytes s ≡ register-line source count) ⌝ }
+// How many subjects and properties a register has.
+pub fn register_line(
+    heap: Global,
+    source: Source,
+    subjects: usize,
+    properties: usize,
+) -> Result<String, AllocError>
+    ensures { λ r. ⌜ made r (λ s. string-bytes s ≡ register-line source subjects properties) ⌝ }
 {
     let name = source.name();
-    format!(heap, "read {count} records of {name}\n")
+    format!(
+        heap,
+        "read {subjects} subjects and {properties} properties of {name}\n"
+    )
 }
 
 // How many conditions of each kind the draft has.

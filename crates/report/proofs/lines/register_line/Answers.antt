@@ -8,4 +8,4 @@ use Rattle.report.proofs.lines.register_line.Needs as need
 
 pub returns : need.returns
 returns c =
-    made-weaker (c .format .result) _ _ (λ s e. e ∙ ap (λ (v : List ℕ). codes "read " ++ (decimal (c .args .count) ++ (codes " records of " ++ (v ++ 10 ∷ [])))) (c .name-name .ensures)) (c .format .ensures .made)
+    made-weaker (c .format .result) _ _ (λ s e. e ∙ ap (λ (v : List ℕ). codes "read " ++ (decimal (c .args .subjects) ++ (codes " subjects and " ++ (decimal (c .args .properties) ++ (codes " properties of " ++ (v ++ 10 ∷ [])))))) (c .name-name .ensures)) (c .format .ensures .made)
