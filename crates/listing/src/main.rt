@@ -1,6 +1,4 @@
 // Reads left.reg, right.reg and draft.rec in the current folder, and prints what they hold, or the first fault.
-use records::ConditionRecord;
-use records::Conditions;
 use records::Kind;
 use report::FileFaultTold;
 use report::OpenError;
@@ -8,7 +6,7 @@ use report::Source;
 use report::count_kind;
 use report::draft_line;
 use report::fault_line;
-use report::open;
+use report::open_draft;
 use report::open_register;
 use report::register_line;
 use std::fs;
@@ -31,7 +29,7 @@ fn contents(rt: &LibcRuntime, path: &str) -> io::Result<Vec<u8>> {
 }
 
 // What was opened; a refused file prints its fault line and gives nothing.
-fn accepted<T: Drop>(
+fn accepted<T>(
     rt: &LibcRuntime,
     source: Source,
     opened: Result<T, OpenError>,
@@ -56,18 +54,17 @@ fn main(rt: LibcRuntime) -> io::Result<()> {
     let Some(right) = accepted(&rt, Source::Right, right)? else {
         return Ok(());
     };
-    let draft = contents(&rt, "draft.rec")?;
-    let Some(draft) = accepted(
-        &rt,
-        Source::Draft,
-        open::<Conditions>(heap, draft.as_slice()),
-    )?
-    else {
+    let left_line = register_line(heap, Source::Left, left.subjects(), left.properties())?;
+    let right_line = register_line(heap, Source::Right, right.subjects(), right.properties())?;
+    let conditions = contents(&rt, "draft.rec")?;
+    let draft = open_draft(heap, left, right, conditions.as_slice());
+    let Some(draft) = accepted(&rt, Source::Draft, draft)? else {
         return Ok(());
     };
-    rt.print(register_line(heap, Source::Left, left.subjects(), left.properties())?)?;
-    rt.print(register_line(heap, Source::Right, right.subjects(), right.properties())?)?;
-    let equal = count_kind(draft.as_slice(), Kind::Equal);
-    let share = count_kind(draft.as_slice(), Kind::Share);
+    let equal = count_kind(draft.comparisons(), Kind::Equal);
+    let share = count_kind(draft.comparisons(), Kind::Share);
+    let (_, _) = draft.into_tables();
+    rt.print(left_line)?;
+    rt.print(right_line)?;
     rt.print(draft_line(heap, equal, share)?)
 }

@@ -1,3 +1,4 @@
+pub mod Adding
 pub mod Bounding
 pub mod Opening
 pub mod Registering

@@ -1,24 +1,24 @@
-use Prim.Native.Nat.{ℕ, _+_, _*_, _/_, _%_, _<_, _≤_}
+use Prim.Native.Nat.{ℕ, _+_, _*_, _/_, _<_, _≤_}
 use mathlib.Core.Path.{_≡_, refl, sym, ap, _∙_}
 use mathlib.Core.Bool.{Bool, true, false, cond}
 use mathlib.Core.List.{List, [], _∷_, _++_, map}
 use native.Mathlib.Omega.{arith}
 use native.Mathlib.Nat.{zero-add}
-use lib.Dec.{leb, eqb}
 use lib.ListN.{length, drop, getD}
 use Rattle.std.proofs.shelf.Counted.{length-map-counting, getD-map-counting, map-counting-more}
 use Rattle.std.proofs.shelf.Lists.{drop-more, drop-all}
-use Rattle.std.proofs.shelf.Tests.{cond-true, cond-false, le-leb, eq-eqb}
+use Rattle.std.proofs.shelf.Tests.{cond-true, cond-false, le-leb}
 use Rattle.std.specs.Iters.{counting}
 use Rattle.std.specs.declared.option.Option.{Option}
 use Rattle.std.specs.declared.option.Option.the-variants.{Some, None}
 use Rattle.std.specs.declared.result.Result.{Result}
 use Rattle.std.specs.declared.result.Result.the-variants.{Ok, Err}
 use Rattle.records.specs.Fields.{fields-in}
+use Rattle.records.specs.Questions.{first-no}
 use Rattle.records.specs.Reading.{record-at, lies-in, bodies, read-answer}
 use Rattle.records.specs.Refusals.{Refusal}
 use Rattle.records.proofs.Places.{lies-from}
-use Rattle.report.specs.Files.{body-fault, file-fault}
+use Rattle.report.specs.Files.{body-fault, length-fault, file-fault}
 
 abbrev pub body-at : {B : Type 0} → (List ℕ → B) → ℕ → List ℕ → ℕ → B
 body-at made size xs i = made (fields-in (record-at size i xs))
@@ -47,7 +47,7 @@ body-refused made allowed size xs i f pos h e =
     refused-from (allowed (body-at made size xs i)) (body-at made size xs i) i f (e ∙ read-within made allowed size xs i pos h)
 
 -- the bodies from number i on are body i and those behind it
-drop-bodies : {B : Type 0} (made : List ℕ → B) (size : ℕ) (xs : List ℕ) (i : ℕ) → i < length xs / size → drop i (bodies made size xs) ≡ body-at made size xs i ∷ drop (i + 1) (bodies made size xs)
+pub drop-bodies : {B : Type 0} (made : List ℕ → B) (size : ℕ) (xs : List ℕ) (i : ℕ) → i < length xs / size → drop i (bodies made size xs) ≡ body-at made size xs i ∷ drop (i + 1) (bodies made size xs)
 drop-bodies made size xs i h =
     let f = body-at made size xs in
     let n = length xs / size in
@@ -75,7 +75,9 @@ fault-none made allowed size xs i h =
     ap (body-fault allowed i) (drop-all i (bodies made size xs) (omega (arith, length-map-counting (body-at made size xs) 0 (length xs / size))))
 
 -- a file of a right length is refused for a record only
-pub file-passes : {B : Type 0} (made : List ℕ → B) (allowed : B → Bool) (size : ℕ) (xs : List ℕ) → length xs ≤ 65532 → length xs % size ≡ 0 → file-fault made allowed size xs ≡ body-fault allowed 0 (bodies made size xs)
-file-passes made allowed size xs short whole =
-    cond-true (leb (length xs) 65532) (cond (eqb (length xs % size) 0) (body-fault allowed 0 (bodies made size xs)) (Some (1, 0))) (Some (4, 0)) (le-leb (length xs) 65532 short)
-    ∙ cond-true (eqb (length xs % size) 0) (body-fault allowed 0 (bodies made size xs)) (Some (1, 0)) (eq-eqb (length xs % size) 0 whole)
+pub file-passes : {B : Type 0} (made : List ℕ → B) (allowed : B → Bool) (size : ℕ) (xs : List ℕ) → length-fault size xs ≡ None → file-fault made allowed size xs ≡ body-fault allowed 0 (bodies made size xs)
+file-passes made allowed size xs e = ap (λ (o : Option Refusal). first-no o (body-fault allowed 0 (bodies made size xs))) e
+
+-- and a file of a wrong length for that
+pub file-fails : {B : Type 0} (made : List ℕ → B) (allowed : B → Bool) (size : ℕ) (xs : List ℕ) (refusal : Refusal) → length-fault size xs ≡ Some refusal → file-fault made allowed size xs ≡ Some refusal
+file-fails made allowed size xs refusal e = ap (λ (o : Option Refusal). first-no o (body-fault allowed 0 (bodies made size xs))) e

@@ -1,3 +1,4 @@
+pub mod Drafts
 pub mod Files
 pub mod Lines
 pub mod Registers

@@ -1,10 +1,14 @@
 // The program's files: how long one may be, and reading all of its records.
 ghost use mathlib.Core.Path.{_≡_};
+ghost use Prim.Native.Nat.{_<_};
+ghost use Rattle.records.specs.Questions.{Checked};
 ghost use Rattle.records.specs.Refusals.{Refusal};
-ghost use Rattle.report.specs.Files.{Opened, file-refusal, of-kind};
-use records::Condition;
+ghost use Rattle.report.specs.Files.{Opened, file-refusal, length-fault};
+use drafts::DraftFault;
+use drafts::DraftFaultTold;
+use drafts::draft::DraftFaultDebug;
+use drafts::draft::DraftFaultPartialEq;
 use records::Fault;
-use records::Kind;
 use records::ReadFault;
 use records::ReadFaultTold;
 use records::Record;
@@ -27,6 +31,7 @@ pub enum FileFault {
     Ragged,
     Unread(ReadFault),
     Unregistered(RegisterFault),
+    Undrafted { record: usize, fault: DraftFault },
 }
 
 pub impl Fault for FileFault as FileFaultTold {
@@ -38,6 +43,7 @@ pub impl Fault for FileFault as FileFaultTold {
             FileFault::Ragged => 1,
             FileFault::Unread(fault) => fault.number(),
             FileFault::Unregistered(fault) => fault.number(),
+            FileFault::Undrafted { fault, .. } => fault.number(),
         }
     }
 
@@ -46,6 +52,7 @@ pub impl Fault for FileFault as FileFaultTold {
             FileFault::TooLong | FileFault::Ragged => 0,
             FileFault::Unread(fault) => fault.place(),
             FileFault::Unregistered(fault) => fault.place(),
+            FileFault::Undrafted { record, .. } => record,
         }
     }
 }
@@ -57,16 +64,28 @@ pub enum OpenError {
     NoMemory,
 }
 
+// Whether a file has at most as many bytes as it may, and whole records only.
+pub(crate) fn check_length(bytes: &[u8], size: usize) -> Result<(), FileFault>
+    requires { ⌜ 0 < size ⌝ }
+    ensures { λ r. ⌜ Checked file-refusal (length-fault size (now (bytes .entry))) r ⌝ }
+{
+    if bytes.len() > LONGEST {
+        return Err(FileFault::TooLong);
+    }
+    if bytes.len() % size != 0 {
+        return Err(FileFault::Ragged);
+    }
+    Ok(())
+}
+
 // Every record of a file, in order.
 pub fn open<K: Record>(heap: Global, bytes: &[u8]) -> Result<Vec<K::Body>, OpenError>
     ensures { λ r. ⌜ Opened (K·Record .made) (K·Record .allowed) (K·Record .size) (now (bytes .entry)) r ⌝ }
 {
-    if bytes.len() > LONGEST {
-        return Err(OpenError::Fault(FileFault::TooLong));
-    }
     let size = K::stride();
-    if bytes.len() % size != 0 {
-        return Err(OpenError::Fault(FileFault::Ragged));
+    match check_length(bytes, size) {
+        Ok(()) => {}
+        Err(fault) => return Err(OpenError::Fault(fault)),
     }
     let mut bodies = Vec::new(heap);
     for i in 0..bytes.len() / size {
@@ -80,17 +99,4 @@ pub fn open<K: Record>(heap: Global, bytes: &[u8]) -> Result<Vec<K::Body>, OpenE
         }
     }
     Ok(bodies)
-}
-
-// How many of the conditions are of a kind.
-pub fn count_kind(conditions: &[Condition], kind: Kind) -> usize
-    ensures { λ r. ⌜ r ≡ of-kind kind (now (conditions .entry)) ⌝ }
-{
-    let mut count = 0;
-    for condition in conditions {
-        if condition.kind == kind.number() {
-            count += 1;
-        }
-    }
-    count
 }
