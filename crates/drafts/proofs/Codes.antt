@@ -19,6 +19,10 @@ holds-at-read l r [] s t i d h = absurd (omega arith)
 holds-at-read l r (c ∷ cs) s t zero d h = refl
 holds-at-read l r (c ∷ cs) s t (suc i) d h = holds-at-read l r cs s t i d (omega arith)
 
+-- A code depends on its tests alone.
+pub code-alike : (k : ℕ) (f g : ℕ → Bool) → ((i : ℕ) → f i ≡ g i) → code-of k f ≡ code-of k g
+code-alike k f g h = ap (code-of k) (λ i n. h n i)
+
 -- A test as a number.
 pub byte-is : (b : Bool) → boolByte b ≡ cond b 1 0
 byte-is true = refl

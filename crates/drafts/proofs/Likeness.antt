@@ -12,7 +12,7 @@ use Rattle.drafts.specs.Comparisons.{agree}
 use Rattle.drafts.specs.Laws.{Same-values}
 use Rattle.drafts.specs.Live.{holds-at, live-code}
 use Rattle.drafts.specs.declared.comparison.Comparison.{Comparison}
-use Rattle.drafts.proofs.Soundness.{code-alike}
+use Rattle.drafts.proofs.Codes.{code-alike}
 use Rattle.drafts.proofs.Values.{contains-first, contains-rest, equals-alike, shares-alike}
 
 agree-alike : (k : Kind) (xs us ys vs : List ℕ) → Same-values xs us → Same-values ys vs → agree k xs ys ≡ agree k us vs

@@ -16,10 +16,7 @@ use Rattle.drafts.specs.Comparisons.{agree}
 use Rattle.drafts.specs.Conditions.{shares}
 use Rattle.drafts.specs.Live.{holds-at, live}
 use Rattle.drafts.specs.declared.comparison.Comparison.{Comparison}
-
--- A code depends on its tests alone.
-pub code-alike : (k : ℕ) (f g : ℕ → Bool) → ((i : ℕ) → f i ≡ g i) → code-of k f ≡ code-of k g
-code-alike k f g h = ap (code-of k) (λ i n. h n i)
+use Rattle.drafts.proofs.Codes.{code-alike}
 
 code-none : (k : ℕ) → code-of k (λ _. false) ≡ 0
 unfolding code-of

@@ -23,7 +23,7 @@ comparison-fault left-properties right-properties cs c =
     (ask (ltb (length cs) 64) (18, 0)
     None)))
 
--- The same where the kind may be none.
+-- The first no to what a condition asks for, which is nothing where its kind is not known.
 abbrev pub asked-fault : ℕ → ℕ → List Comparison → Option Comparison → Option Refusal
 asked-fault left-properties right-properties cs None = Some (30, 0)
 asked-fault left-properties right-properties cs (Some c) = comparison-fault left-properties right-properties cs c

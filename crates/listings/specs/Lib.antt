@@ -1,0 +1,9 @@
+pub mod Calls
+pub mod Candidates
+pub mod Counts
+pub mod Kept
+pub mod Laws
+pub mod Links
+pub mod Pages
+pub mod Replies
+pub mod Small
