@@ -5,6 +5,8 @@ pub mod file;
 pub mod lines;
 pub mod register;
 pub mod source;
+#[cfg(test)]
+mod tests;
 
 pub use draft::count_kind;
 pub use draft::open_draft;

@@ -1,4 +1,4 @@
-use mathlib.Core.Path.{_≡_, sym, _∙_}
+use mathlib.Core.Path.{_≡_}
 use native.Mathlib.Omega.{arith}
 use Rattle.std.specs.declared.option.Option.the-variants.{None}
 use Rattle.std.specs.shelf.Maps.{nth}
@@ -11,7 +11,7 @@ pub returns-then-not-contains : need.returns-then-not-contains
 returns-then-not-contains g c =
     let xs = g .L·Table .meaning (c .args .left .now) .values (c .args .s) (c .args .p) in
     let ys = g .R·Table .meaning (c .args .right .now) .values (c .args .t) (c .args .q) in
-    sym (every-here (contains ys) xs (c .loop-v .i) (c .in-Some .v) (c .in-Some .ensures tt) (sym (c .if-not-contains .ensures tt))) ∙ c .loop-v .inv
+    every-here (contains ys) xs (c .loop-v .i) (c .in-Some .v) (c .in-Some .ensures tt) (c .if-not-contains .ensures tt) (c .loop-v .inv)
 
 pub add-i : need.add-i
 add-i g c =
@@ -29,11 +29,11 @@ pub loop-v-again : need.loop-v-again
 loop-v-again g c =
     let xs = g .L·Table .meaning (c .args .left .now) .values (c .args .s) (c .args .p) in
     let ys = g .R·Table .meaning (c .args .right .now) .values (c .args .t) (c .args .q) in
-    sym (every-next (contains ys) xs (c .loop-v .i) (c .in-Some .v) (c .in-Some .ensures tt) (sym (c .if-not-contains .ensures tt))) ∙ c .loop-v .inv
+    every-next (contains ys) xs (c .loop-v .i) (c .in-Some .v) (c .in-Some .ensures tt) (c .if-not-contains .ensures tt) (c .loop-v .inv)
 
 pub returns : need.returns
 returns g c =
     let xs = g .L·Table .meaning (c .args .left .now) .values (c .args .s) (c .args .p) in
     let ys = g .R·Table .meaning (c .args .right .now) .values (c .args .t) (c .args .q) in
     let ended : None ≡ nth xs (c .loop-v .i) = cc in
-    sym (every-end (contains ys) xs (c .loop-v .i) ended) ∙ c .loop-v .inv
+    every-end (contains ys) xs (c .loop-v .i) ended (c .loop-v .inv)
