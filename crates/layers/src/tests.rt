@@ -83,3 +83,24 @@ fn pile_of_all_layers(rt: LibcRuntime) -> Result<(), Fail> {
     let below = pile.into_below().into_below().into_below();
     check_eq(below.value(1, 1, 1), Some(11))
 }
+
+// The kind layer asks below the folding layer, so it sees the value that is folded above it.
+#[test]
+fn pile_in_another_order(rt: LibcRuntime) -> Result<(), Fail> {
+    let mut picks = Picks::new(rt.alloc())?;
+    check(picks.add(1).is_ok())?;
+    check(picks.add(0).is_ok())?;
+    let mut list = FoldingList::new(rt.alloc())?;
+    check(list.add(2, 40).is_ok())?;
+    let picked = PickLayer::new(Sample, picks);
+    let kind = KindLayer::new(picked, 1, 2);
+    let pile = FoldingLayer::new(kind, list);
+    check_eq((pile.subjects(), pile.properties()), (3, 2))?;
+    check(!pile.is_present(0) && !pile.is_present(1) && pile.is_present(2))?;
+    check_eq(pile.value(2, 1, 0), Some(40))?;
+    check_eq(pile.value(2, 0, 1), Some(11))?;
+    check_eq(pile.count(2, 2), 0)?;
+    check_eq(pile.count(1, 0), 0)?;
+    let below = pile.into_below().into_below().into_below();
+    check_eq(below.value(2, 0, 0), Some(2))
+}
