@@ -1,4 +1,6 @@
 // Lists registers of full size: 2,048 subjects a side, and 24 and 64 conditions. It prints what it found; `bench/run` times it.
+#![tactic(auto)]
+
 mod registers;
 
 use crate::registers::{Random, register};

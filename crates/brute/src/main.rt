@@ -1,5 +1,7 @@
 // Compares whole listings with a plain enumeration of all sets of conditions, over many small random tables.
 // It prints what it compared, or the first round in which the two differ.
+#![tactic(auto)]
+
 mod asked;
 mod enumeration;
 mod facts;

@@ -1,4 +1,6 @@
 // Reads left.reg, right.reg and draft.rec in the current folder, and prints every candidate, or the first fault.
+#![tactic(auto)]
+
 use drafts::Draft;
 use listings::{Listing, Unstarted, start};
 use report::{OpenError, Source, end_line, fault_line, next_line, open_draft, open_register};

@@ -1,4 +1,5 @@
 // Contexts: a relation of codes between two sides, the questions that every context answers by it, and row books.
+#![tactic(auto)]
 
 pub mod coded_pair;
 pub mod context;

@@ -1,4 +1,5 @@
 // Drafts: conditions over two tables, and the context that they make.
+#![tactic(auto)]
 
 pub mod comparison;
 pub mod conditions;

@@ -1,5 +1,6 @@
 // Sets of conditions as codes: their widening over a list of codes, and the closed codes one after another.
 // A draft has at most 64 conditions; the code of a set is the sum of its conditions' weights.
+#![tactic(auto)]
 
 pub mod candidates;
 pub mod closed;

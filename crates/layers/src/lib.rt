@@ -1,4 +1,5 @@
 // Layers: tables that stand on any table, follow their rule, and give the table below back.
+#![tactic(auto)]
 
 pub mod folding;
 pub mod folding_list;

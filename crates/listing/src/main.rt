@@ -1,4 +1,6 @@
 // Reads left.reg, right.reg and draft.rec in the current folder, and prints what they hold, or the first fault.
+#![tactic(auto)]
+
 use records::Kind;
 use report::{
     OpenError, Source, count_kind, draft_line, fault_line, open_draft, open_register, register_line,

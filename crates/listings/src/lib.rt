@@ -1,4 +1,5 @@
 // Listings: the candidates of a relation, one after another, and what every run of calls owes.
+#![tactic(auto)]
 
 pub mod call;
 pub mod fault;

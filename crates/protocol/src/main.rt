@@ -1,5 +1,7 @@
 // The order of calls: two tables, a draft, a listing, and the tables back. Each step consumes what the step before it made.
 // A counter keeps its draft and its listing in slots, so that the order is a fact to prove: a slot that was emptied has no draft to add to and no listing to take from.
+#![tactic(auto)]
+
 ghost use Rattle.std.specs.Prelude.{◌≡◌, true, false, is_some};
 
 mod diary;

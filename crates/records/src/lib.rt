@@ -1,5 +1,6 @@
 // Records of fixed size in a run of bytes: triples, conditions, links and candidates.
 // Each kind says its size and its fields; reading and writing are written once, for every kind.
+#![tactic(auto)]
 
 pub mod fault;
 mod fields;

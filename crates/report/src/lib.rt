@@ -1,4 +1,5 @@
 // What the program makes of its files: tables and a draft or a fault, and the bytes of every line that it prints.
+#![tactic(auto)]
 
 pub mod candidates;
 pub mod draft;

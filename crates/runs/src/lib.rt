@@ -1,4 +1,5 @@
 // Whole runs over two tables: what any list of calls is answered, and that alike tables answer alike.
+#![tactic(auto)]
 
 pub mod alike;
 pub mod laws;

@@ -1,4 +1,5 @@
 // Tables: what one means, and two kinds of table.
+#![tactic(auto)]
 
 mod bounds;
 pub mod register;

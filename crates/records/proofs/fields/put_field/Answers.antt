@@ -7,5 +7,5 @@ pub returns : goal.returns
 returns c =
     let n = c.args.field in
     let last : n / 16777216 % 256 ≡ n / 16777216 = omega arith in
-    let bytes : c.to-le-bytes.result ≡ four n = cc in
-    part_written c.args.at _ c.args.part.now (four n) (c.copy-from-slice.ensures.after ∙ bytes) (omega arith)
+    let bytes : c.to_le_bytes.result ≡ four n = cc in
+    part_written c.args.at _ c.args.part.now (four n) (c.copy_from_slice.ensures.after ∙ bytes) (omega arith)

@@ -19,7 +19,7 @@ written : (g : given.Over) (c : After-read g) →
 written g c =
     let k = g.K.Record in
     let b = c.args.body.now in
-    let w = c.in-ok-write.ensures in
+    let w = c.in_ok-write.ensures in
     read_back k.made k.fields k.allowed k.size c.args.i c.in-Some.at c.stride.result b c.args.out.now c.write.new.out _ (g.met.K.Record.whole b) (g.met.K.Record.carried b) c.stride.ensures c.in-Some.ensures.0 w.answer w.after
 
 pub unreachable-requires : goal.unreachable-requires

@@ -8,6 +8,6 @@ pub returns-then-part-ge-SIZE : goal.returns-then-part-ge-SIZE
 returns-then-part-ge-SIZE c =
     let xs = c.args.part.now in
     let b = c.args.body.now in
-    let one = put_more [] b.subject 0 xs refl refl c.put-field.ensures in
-    let two = put_more (b.subject ∷ []) b.property 4 xs refl one c.put-field-then-part-ge-SIZE.ensures in
-    at_most 12 (length xs) (bytes_of (triple_fields b) ++ drop 12 xs) xs c.if-part-ge-SIZE.true (put_more (b.subject ∷ b.property ∷ []) b.value 8 xs refl two c.put-field-then-part-ge-SIZE-2.ensures)
+    let one = put_more [] b.subject 0 xs refl refl c.put_field.ensures in
+    let two = put_more (b.subject ∷ []) b.property 4 xs refl one c.put_field-then-part-ge-SIZE.ensures in
+    at_most 12 (length xs) (bytes_of (triple_fields b) ++ drop 12 xs) xs c.if-part-ge-SIZE.true (put_more (b.subject ∷ b.property ∷ []) b.value 8 xs refl two c.put_field-then-part-ge-SIZE-2.ensures)
