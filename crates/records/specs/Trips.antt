@@ -1,4 +1,4 @@
-use Rattle.std.specs.Prelude.{ℕ, ◌*◌, Bool, cond, List, Ok, Err, Result}
+use Rattle.std.specs.Prelude.{ℕ, Bool, cond, List, Ok, Err, Result}
 use Rattle.records.specs.Reading.{lies_in}
 use Rattle.records.specs.Refusals.{Refusal}
 

@@ -114,7 +114,7 @@ fn questions(rt: HostRuntime) -> Result<(), Fail> {
     let pairs = book.coded_pairs(rt.alloc())?;
     assert!(rt;
         pairs.as_slice()
-            == &[
+            == [
                 CodedPair {
                     left: 0,
                     right: 0,
@@ -126,6 +126,7 @@ fn questions(rt: HostRuntime) -> Result<(), Fail> {
                     code: 7,
                 },
             ]
+            .as_slice()
     );
     let fault = BookFault::WrongCode { word: 7 };
     assert_eq!(rt; (fault.number(), fault.place()), (23, 7));

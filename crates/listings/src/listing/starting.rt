@@ -95,7 +95,7 @@ fn distinct_codes(heap: Global, pairs: &[CodedPair]) -> Result<Vec<u64>, AllocEr
     for pair in pairs {
         codes.push(pair.code)?;
     }
-    codes.sort();
+    codes.sort_unstable();
     without_repeats(heap, codes.as_slice())
 }
 

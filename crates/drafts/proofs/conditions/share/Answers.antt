@@ -11,8 +11,8 @@ returns-then-contains g c =
     let ys = (g.R.Table.meaning c.args.right.now).values c.args.t c.args.q in
     some_here (contains ys) xs c.loop-v.i c.in-Some.v c.in-Some.ensures c.if-contains.ensures c.loop-v.invariant
 
-pub overflow-add-i : goal.overflow-add-i
-overflow-add-i g c =
+pub overflow_add-i : goal.overflow_add-i
+overflow_add-i g c =
     let xs = (g.L.Table.meaning c.args.left.now).values c.args.s c.args.p in
     let inside = some_within xs c.loop-v.i c.in-Some.v c.in-Some.ensures in
     omega (arith, (g.met.L.Table.sound c.args.left.now).short_lists c.args.s c.args.p)

@@ -1,4 +1,4 @@
-use Rattle.std.proofs.Common.{◌≡◌, ◌+◌, ◌≤◌, length, sym, ap, ◌∙◌, arith}
+use Rattle.std.proofs.Common.{◌+◌, ◌≤◌, length, sym, ◌∙◌, arith}
 use Rattle.records.specs.Fields.{bytes_of}
 use Rattle.records.proofs.Bytes.{length_bytes_of}
 use Rattle.records.proofs.Places.{lent_written}

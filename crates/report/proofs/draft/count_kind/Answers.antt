@@ -9,8 +9,8 @@ use Rattle.report.specs.Drafts.{of_kind}
 use Rattle.report.proofs.draft.count_kind.Goals as goal
 use Rattle.report.proofs.draft.count_kind.Goals.{then-number, else-number}
 
-pub overflow-add-count : goal.overflow-add-count
-overflow-add-count c =
+pub overflow_add-count : goal.overflow_add-count
+overflow_add-count c =
     let k = kind_number c.args.kind in
     let is : Comparison → Bool = λ x. eqb (kind_number x.kind) k in
     let seen = take c.loop-comparison.comparison-index c.args.comparisons.now in

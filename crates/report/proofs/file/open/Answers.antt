@@ -32,7 +32,7 @@ loop-i-preserved g c =
     let within : i < length xs / k.size = rw (← c.stride-size.ensures) c.loop-i-test.true in
     let read = body_read k.made k.allowed k.size xs i c.in-Ok-read.body g.met.K.Record.some within c.in-Ok-read.ensures in
     let pushed : vec_items c.push.new.self ≡ vec_items c.loop-i.bodies ++ c.in-Ok-read.body ∷ [] =
-    c.push.ensures.items ∙ cond-true _ _ _ (c.is-err.ensures.negation ∙ ap not c.if-is-err.false)
+    c.push.ensures.items ∙ cond-true _ _ _ (c.is_err.ensures.negation ∙ ap not c.if-is_err.false)
     in (
       pushed ∙ body_push k.made k.size xs i c.loop-i.invariant.0 read.1,
       c.loop-i.invariant.1 ∙ fault_more k.made k.allowed k.size xs i within read.0,

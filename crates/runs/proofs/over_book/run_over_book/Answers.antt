@@ -13,6 +13,6 @@ returns-in-Ok-run g c =
     let comparisons = vec_items draft.comparisons in
     let calls = vec_items c.args.calls in
     let answers = vec_items c.in-Ok-run.answered.answers in
-    let back = c.into-tables-left.ensures in
+    let back = c.into_tables-left.ensures in
     let ran = subst (λ (r : Relation). Ran r calls answers) c.in-Ok.ensures c.in-Ok-run.ensures.1 in
     (back.0, back.1, ran_over left right comparisons calls answers (live_alike left right comparisons) ran)

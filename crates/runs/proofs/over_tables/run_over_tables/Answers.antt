@@ -14,7 +14,7 @@ returns-in-Ok g c =
     let draft = c.args.draft in
     let v = c.start.result in
     let e = c.in-Ok.ensures in
-    let back = c.into-tables-left.ensures in
+    let back = c.into_tables-left.ensures in
     let relation : live (g.L.Table.meaning v.left) (g.R.Table.meaning v.right) (vec_items v.comparisons) ≡ live (g.L.Table.meaning draft.left) (g.R.Table.meaning draft.right) (vec_items draft.comparisons) =
     ap (λ (t : g.row.L.Denot). live (g.L.Table.meaning t) (g.R.Table.meaning v.right) (vec_items v.comparisons)) started.left
     ∙ ap (λ (t : g.row.R.Denot). live (g.L.Table.meaning draft.left) (g.R.Table.meaning t) (vec_items v.comparisons)) started.right

@@ -8,8 +8,8 @@ returns-then-x-v g c =
     let xs = (g.T.Table.meaning c.args.table.now).values c.args.s c.args.p in
     sym (contains_some xs c.loop-x.i c.in-Some.x c.args.v c.in-Some.ensures c.if-x-v.true) ∙ c.loop-x.invariant
 
-pub overflow-add-i : goal.overflow-add-i
-overflow-add-i g c =
+pub overflow_add-i : goal.overflow_add-i
+overflow_add-i g c =
     let xs = (g.T.Table.meaning c.args.table.now).values c.args.s c.args.p in
     let within = some_within xs c.loop-x.i c.in-Some.x c.in-Some.ensures in
     omega (arith, (g.met.T.Table.sound c.args.table.now).short_lists c.args.s c.args.p)

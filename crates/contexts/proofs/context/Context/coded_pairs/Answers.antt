@@ -6,7 +6,7 @@ use Rattle.contexts.specs.Relation.{Relation}
 use Rattle.contexts.specs.declared.coded_pair.CodedPair.{CodedPair}
 use Rattle.contexts.proofs.Coding.{rows_coded, row_coded, rows_more, row_more_coded, row_more_bare}
 use Rattle.contexts.proofs.context.Context.coded_pairs.Goals as goal
-use Rattle.contexts.proofs.context.Context.coded_pairs.Goals.{then-code-ne0+in-ok-push, else-code-ne0}
+use Rattle.contexts.proofs.context.Context.coded_pairs.Goals.{then-code-ne0+in_ok-push, else-code-ne0}
 
 -- What stands after a pair, where `more` is what it adds.
 pair_after : (r : Relation) (s t : ℕ) (ps qs more : List CodedPair) → ps ≡ rows_coded r s ++ row_coded r s t → qs ≡ ps ++ more → row_coded r s (t + 1) ≡ row_coded r s t ++ more → qs ≡ rows_coded r s ++ row_coded r s (t + 1)
@@ -20,10 +20,10 @@ loop-t-preserved g c =
     let t = c.loop-t.t in
     let told = c.code-code.ensures in
     elim c.if-code-ne0.branch [
-      | then-code-ne0+in-ok-push w ↦
+      | then-code-ne0+in_ok-push w ↦
           let bare : eqb (r.code s t) 0 ≡ false = ne_eqb (r.code s t) 0 (λ e. w.if-code-ne0.true (told ∙ e)) in
           pair_after r s t _ _ (coded r (s, t) ∷ []) c.loop-t.invariant
-          (ap vec_items w.pairs-is ∙ w.in-ok-push.ensures.items ∙ ap (λ (x : ℕ). vec_items c.loop-t.pairs ++ record { left = s; right = t; code = x } ∷ []) told)
+          (ap vec_items w.pairs-is ∙ w.in_ok-push.ensures.items ∙ ap (λ (x : ℕ). vec_items c.loop-t.pairs ++ record { left = s; right = t; code = x } ∷ []) told)
           (row_more_coded r s t bare)
       | else-code-ne0 w ↦
           pair_after r s t _ _ [] c.loop-t.invariant (ap vec_items w.pairs-is ∙ sym (append-nil (vec_items c.loop-t.pairs))) (row_more_bare r s t (eq-eqb (r.code s t) 0 (sym told ∙ w.if-code-ne0.false)))

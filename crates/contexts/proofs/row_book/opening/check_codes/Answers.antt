@@ -14,12 +14,12 @@ loop-i-init c =
 pub loop-i-preserved : goal.loop-i-preserved
 loop-i-preserved c =
     let test = code_allowed c.args.words.now c.args.lefts c.args.rights c.args.width.conditions in
-    c.loop-i.invariant ∙ failing_more 23 test c.loop-i.i (length c.args.words.now) c.loop-i-test.true (sym c.if-not-is-code-allowed.ensures)
+    c.loop-i.invariant ∙ failing_more 23 test c.loop-i.i (length c.args.words.now) c.loop-i-test.true (sym c.if-not-is_code_allowed.ensures)
 
-pub returns-then-not-is-code-allowed : goal.returns-then-not-is-code-allowed
-returns-then-not-is-code-allowed c =
+pub returns-then-not-is_code_allowed : goal.returns-then-not-is_code_allowed
+returns-then-not-is_code_allowed c =
     let test = code_allowed c.args.words.now c.args.lefts c.args.rights c.args.width.conditions in
-    c.loop-i.invariant ∙ failing_here 23 test c.loop-i.i (length c.args.words.now) c.loop-i-test.true (sym c.if-not-is-code-allowed.ensures)
+    c.loop-i.invariant ∙ failing_here 23 test c.loop-i.i (length c.args.words.now) c.loop-i-test.true (sym c.if-not-is_code_allowed.ensures)
 
 pub returns : goal.returns
 returns c =

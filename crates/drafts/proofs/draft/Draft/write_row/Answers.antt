@@ -9,8 +9,8 @@ pub loop-t-preserved : goal.loop-t-preserved
 loop-t-preserved g c =
     let v = c.args.self.now in
     let code = λ (cs : List Comparison). live_code (g.L.Table.meaning v.left) (g.R.Table.meaning v.right) cs c.args.s in
-    fill_next (code (vec_items v.comparisons)) c.loop-t.words c.loop-t.t c.pair-code.result
-    (c.pair-code.ensures ∙ ap (λ (cs : List Comparison). code cs c.loop-t.t) c.as-slice.ensures.value)
+    fill_next (code (vec_items v.comparisons)) c.loop-t.words c.loop-t.t c.pair_code.result
+    (c.pair_code.ensures ∙ ap (λ (cs : List Comparison). code cs c.loop-t.t) c.as_slice.ensures.value)
     (omega arith)
     c.loop-t.invariant
 

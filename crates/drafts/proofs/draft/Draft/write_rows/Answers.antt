@@ -6,11 +6,11 @@ use Rattle.drafts.specs.Live.{live_code}
 use Rattle.drafts.proofs.Words.{part_length, row_within, rows_next}
 use Rattle.drafts.proofs.draft.Draft.write_rows.Goals as goal
 
-pub offset-bounds-words-start : goal.offset-bounds-words-start
-offset-bounds-words-start g c = omega (arith, row_within c.loop-s.s c.args.lefts c.args.rights c.loop-s-test.true, c.requires)
+pub offset_bounds-words-start : goal.offset_bounds-words-start
+offset_bounds-words-start g c = omega (arith, row_within c.loop-s.s c.args.lefts c.args.rights c.loop-s-test.true, c.requires)
 
-pub slice-bounds-write-row-end : goal.slice-bounds-write-row-end
-slice-bounds-write-row-end g c = omega (arith, row_within c.loop-s.s c.args.lefts c.args.rights c.loop-s-test.true, c.requires)
+pub slice_bounds-write_row-end : goal.slice_bounds-write_row-end
+slice_bounds-write_row-end g c = omega (arith, row_within c.loop-s.s c.args.lefts c.args.rights c.loop-s-test.true, c.requires)
 
 pub loop-s-preserved : goal.loop-s-preserved
 loop-s-preserved g c =
@@ -20,11 +20,11 @@ loop-s-preserved g c =
     let width = c.args.rights in
     let inside = row_within s c.args.lefts width c.loop-s-test.true in
     let long = part_length c.loop-s.words (s * width) width (omega (arith, c.requires, c.loop-s.auto.words)) in
-    rows_next (λ r. map (code r) (range width)) c.loop-s.words c.write-row.new.words s width _
+    rows_next (λ r. map (code r) (range width)) c.loop-s.words c.write_row.new.words s width _
     (omega (arith, c.requires, c.loop-s.auto.words))
     c.loop-s.invariant
-    (c.write-row.ensures ∙ ap (λ (n : ℕ). map (code s) (range n)) long)
-    (c.write-row.auto.words ∙ long)
+    (c.write_row.ensures ∙ ap (λ (n : ℕ). map (code s) (range n)) long)
+    (c.write_row.auto.words ∙ long)
 
 pub returns : goal.returns
 returns g c =

@@ -1,23 +1,28 @@
-use Rattle.std.proofs.Common.{sym, refl, ◌∙◌}
+use Rattle.std.proofs.Common.{sym, ◌∙◌, get_or}
 use Rattle.std.proofs.lemmas.List.{at_drop_all}
-use Rattle.std.proofs.lemmas.Bool.{false≢true}
+use Rattle.records.specs.declared.kinds.condition.Kind.TheVariants.{Equal}
 use Rattle.drafts.specs.Comparisons.{same_comparison}
 use Rattle.drafts.specs.Conditions.{some}
-use Rattle.drafts.proofs.Sameness.{same_if, other_unless}
+use Rattle.drafts.specs.declared.comparison.Comparison.{Comparison}
+use Rattle.drafts.proofs.Sameness.{asked_is_same}
 use Rattle.drafts.proofs.Walks.{some_at, some_after}
 use Rattle.drafts.proofs.draft.calls.has.Goals as goal
 
+abbrev none : Comparison
+none = record { kind = Equal; left = 0; right = 0 }
+
 pub returns-then-eq : goal.returns-then-eq
 returns-then-eq c =
-    let h = c.if-eq.ensures in
-    sym (some_at (same_comparison c.args.comparison) c.args.comparisons.now c.loop-known.known-index _ c.loop-known-test.true (same_if _ _ h.0 (h.1.0.0 refl) (h.1.1.0 refl)))
+    let known = get_or c.args.comparisons.now c.loop-known.known-index none in
+    sym (some_at (same_comparison c.args.comparison) c.args.comparisons.now c.loop-known.known-index none c.loop-known-test.true (sym (asked_is_same c.args.comparison known) ∙ sym c.if-eq.ensures))
     ∙ c.loop-known.invariant
 
 pub loop-known-preserved : goal.loop-known-preserved
 loop-known-preserved c =
-    let h = c.if-eq.ensures in
-    let other = other_unless c.args.comparison _ (λ k l r. h (λ n. n k) (λ d. false≢true (d.1 l)) (λ d. false≢true (d.1 r))) in
-    sym (some_after (same_comparison c.args.comparison) c.args.comparisons.now c.loop-known.known-index _ c.loop-known-test.true other) ∙ c.loop-known.invariant
+    let known = get_or c.args.comparisons.now c.loop-known.known-index none in
+    let other = sym (asked_is_same c.args.comparison known) ∙ sym c.if-eq.ensures in
+    sym (some_after (same_comparison c.args.comparison) c.args.comparisons.now c.loop-known.known-index none c.loop-known-test.true other)
+    ∙ c.loop-known.invariant
 
 pub returns : goal.returns
 returns c = sym (at_drop_all (some (same_comparison c.args.comparison)) _ _ c.loop-known-test.false) ∙ c.loop-known.invariant

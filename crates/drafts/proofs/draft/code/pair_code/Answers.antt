@@ -7,11 +7,11 @@ pub loop-comparison-init : goal.loop-comparison-init
 unfolding code_of
 loop-comparison-init g c = refl
 
-pub overflow-mul-code : goal.overflow-mul-code
-overflow-mul-code g c = omega (arith, c.requires, code_small _ _ _ (omega (arith, c.requires, c.loop-comparison-test.true)) c.loop-comparison.invariant)
+pub overflow_mul-code : goal.overflow_mul-code
+overflow_mul-code g c = omega (arith, c.requires, code_small _ _ _ (omega (arith, c.requires, c.loop-comparison-test.true)) c.loop-comparison.invariant)
 
-pub overflow-add-code : goal.overflow-add-code
-overflow-add-code g c =
+pub overflow_add-code : goal.overflow_add-code
+overflow_add-code g c =
     omega (arith, c.from.ensures, byte_small c.holds.result, code_small _ _ _ (omega (arith, c.requires, c.loop-comparison-test.true)) c.loop-comparison.invariant)
 
 pub loop-comparison-preserved : goal.loop-comparison-preserved

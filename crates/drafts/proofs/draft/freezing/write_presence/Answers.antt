@@ -8,7 +8,7 @@ use Rattle.drafts.proofs.draft.freezing.write_presence.Goals as goal
 pub loop-s-preserved : goal.loop-s-preserved
 loop-s-preserved g c =
     fill_next (λ s. presence_word ((g.T.Table.meaning c.args.table.now).present s)) c.loop-s.words c.loop-s.s c.from.result
-    (c.from.ensures ∙ byte_is c.is-present.result ∙ ap presence_word c.is-present.ensures)
+    (c.from.ensures ∙ byte_is c.is_present.result ∙ ap presence_word c.is_present.ensures)
     (omega arith)
     c.loop-s.invariant
 

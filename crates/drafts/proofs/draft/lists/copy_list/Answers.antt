@@ -17,7 +17,7 @@ pub loop-v-smaller : goal.loop-v-smaller
 loop-v-smaller g c =
     let xs = (g.T.Table.meaning c.args.table.now).values c.args.s c.args.p in
     let inside = some_within xs c.len.result c.in-Some.v c.in-Some.ensures in
-    omega (arith, c.len.ensures, c.in-ok-push.ensures.len)
+    omega (arith, c.len.ensures, c.in_ok-push.ensures.len)
 
 pub loop-v-preserved : goal.loop-v-preserved
 loop-v-preserved g c =
@@ -26,8 +26,8 @@ loop-v-preserved g c =
     c.in-Some.ensures
     c.len.ensures
     c.loop-v.invariant
-    c.in-ok-push.ensures.items
-    c.in-ok-push.ensures.len
+    c.in_ok-push.ensures.items
+    c.in_ok-push.ensures.len
 
 pub returns : goal.returns
 returns g c =

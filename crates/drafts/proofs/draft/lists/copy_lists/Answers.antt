@@ -15,7 +15,7 @@ one_more list us vs x s before pushed copied =
 
 pub loop-s-preserved : goal.loop-s-preserved
 loop-s-preserved g c =
-    one_more (λ s. (g.T.Table.meaning c.args.table.now).values s c.args.p) (vec_items c.loop-s.lists) (vec_items c.push.new.self) c.in-ok-copy-list.field-0 c.loop-s.s
+    one_more (λ s. (g.T.Table.meaning c.args.table.now).values s c.args.p) (vec_items c.loop-s.lists) (vec_items c.push.new.self) c.in_ok-copy_list.field-0 c.loop-s.s
     c.loop-s.invariant
-    c.in-ok-push.ensures.items
-    c.in-ok-copy-list.ensures
+    c.in_ok-push.ensures.items
+    c.in_ok-copy_list.ensures

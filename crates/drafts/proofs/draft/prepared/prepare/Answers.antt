@@ -15,11 +15,11 @@ loop-comparison-preserved g c =
     _
     c.loop-comparison.comparison-index
     _
-    c.in-ok-of.field-0
+    c.in_ok-of.field-0
     c.loop-comparison-test.true
     c.loop-comparison.invariant
-    c.in-ok-of.ensures
-    c.in-ok-push.ensures.items
+    c.in_ok-of.ensures
+    c.in_ok-push.ensures.items
 
 pub returns : goal.returns
 returns g c =

@@ -14,8 +14,8 @@ unfolding code_of
 loop-comparison-init c =
     λ t h. ap (λ (xs : List ℕ). get_or xs t 0) (c.fill.ensures.after (λ y e. e)) ∙ get_or-replicate (length c.args.row.now) t 0 0 (omega (arith, h, c.fill.ensures.len))
 
-pub add-to-requires : goal.add-to-requires
-add-to-requires c =
+pub add_to-requires : goal.add_to-requires
+add_to-requires c =
     let ps = c.args.prepared.now in
     let i = c.loop-comparison.comparison-index in
     let P : Prepared → Type 0 = λ p. HasLists c.args.s (length c.loop-comparison.row) p in
@@ -33,8 +33,8 @@ loop-comparison-preserved c =
     let i = c.loop-comparison.comparison-index in
     let s = c.args.s in
     let p = c.comparison-item.result in
-    let inside : t < length c.loop-comparison.row = omega (arith, h, c.add-to.auto.row) in
-    c.add-to.ensures t inside
+    let inside : t < length c.loop-comparison.row = omega (arith, h, c.add_to.auto.row) in
+    c.add_to.ensures t inside
     ∙ code_more (prepared_at ps s t) i (get_or c.loop-comparison.row t 0) _ (prepared_holds p s t) (c.loop-comparison.invariant t inside)
     (ap (λ (q : Prepared). prepared_holds q s t) c.comparison-item.is ∙ sym (prepared_at_read ps s t i p c.loop-comparison-test.true))
     refl

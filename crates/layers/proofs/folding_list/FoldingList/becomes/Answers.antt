@@ -9,7 +9,7 @@ pub returns-then-entry-v : goal.returns-then-entry-v
 returns-then-entry-v c =
     sym (becomes_here _ _ _ (folding 0 0) c.loop-entry-test.true c.if-entry-v.true)
     ∙ c.loop-entry.invariant
-    ∙ ap (λ (es : List Folding). becomes es c.args.v) c.as-slice-entries.ensures.value
+    ∙ ap (λ (es : List Folding). becomes es c.args.v) c.as_slice-entries.ensures.value
 
 pub loop-entry-preserved : goal.loop-entry-preserved
 loop-entry-preserved c = sym (becomes_next _ _ _ (folding 0 0) c.loop-entry-test.true c.if-entry-v.false) ∙ c.loop-entry.invariant
@@ -18,4 +18,4 @@ pub returns : goal.returns
 returns c =
     sym (at_drop_all (λ (es : List Folding). becomes es c.args.v) _ _ c.loop-entry-test.false)
     ∙ c.loop-entry.invariant
-    ∙ ap (λ (es : List Folding). becomes es c.args.v) c.as-slice-entries.ensures.value
+    ∙ ap (λ (es : List Folding). becomes es c.args.v) c.as_slice-entries.ensures.value

@@ -10,7 +10,7 @@ pub returns-then-entry-v : goal.returns-then-entry-v
 returns-then-entry-v c =
     sym (contains_here (λ (e : Folding). e.from) _ _ _ (folding 0 0) c.loop-entry-test.true c.if-entry-v.true)
     ∙ c.loop-entry.invariant
-    ∙ ap (λ (es : List Folding). contains (froms es) c.args.v) c.as-slice-entries.ensures.value
+    ∙ ap (λ (es : List Folding). contains (froms es) c.args.v) c.as_slice-entries.ensures.value
 
 pub loop-entry-preserved : goal.loop-entry-preserved
 loop-entry-preserved c =
@@ -20,4 +20,4 @@ pub returns : goal.returns
 returns c =
     sym (at_drop_all (λ (es : List Folding). contains (froms es) c.args.v) _ _ c.loop-entry-test.false)
     ∙ c.loop-entry.invariant
-    ∙ ap (λ (es : List Folding). contains (froms es) c.args.v) c.as-slice-entries.ensures.value
+    ∙ ap (λ (es : List Folding). contains (froms es) c.args.v) c.as_slice-entries.ensures.value

@@ -20,8 +20,8 @@ bounds-lefts-pair c = (inside c.args.pairs.now c.loop-pair.pair-index c.loop-pai
 pub bounds-rights-pair : goal.bounds-rights-pair
 bounds-rights-pair c = (inside c.args.pairs.now c.loop-pair.pair-index c.loop-pair-test.true c.requires.within).1
 
-pub overflow-add-links : goal.overflow-add-links
-overflow-add-links c =
+pub overflow_add-links : goal.overflow_add-links
+overflow_add-links c =
     let seen = take c.loop-pair.pair-index c.args.pairs.now in
     omega (arith, c.requires.few, c.loop-pair-test.true, c.loop-pair.invariant.0, linking_fewer c.args.x seen, length-take c.loop-pair.pair-index c.args.pairs.now)
 
@@ -43,4 +43,4 @@ loop-pair-preserved c =
 pub returns : goal.returns
 returns c =
     let all = counted_all c.args.x c.args.pairs.now c.loop-pair.pair-index c.loop-pair.links c.loop-pair.lefts c.loop-pair.rights c.loop-pair-test.false c.loop-pair.invariant in
-    record { links = all.0; left = c.count-set.ensures ∙ all.1; right = c.count-set-2.ensures ∙ all.2 }
+    record { links = all.0; left = c.count_set.ensures ∙ all.1; right = c.count_set-2.ensures ∙ all.2 }

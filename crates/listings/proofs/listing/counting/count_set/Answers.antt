@@ -6,8 +6,8 @@ use Rattle.listings.specs.Copied.{marks_set}
 use Rattle.listings.proofs.listing.counting.count_set.Goals as goal
 use Rattle.listings.proofs.listing.counting.count_set.Goals.{then-mark, else-mark}
 
-pub overflow-add-count : goal.overflow-add-count
-overflow-add-count c =
+pub overflow_add-count : goal.overflow_add-count
+overflow_add-count c =
     let seen = take c.loop-mark.mark-index c.args.marks.now in
     omega (arith, c.requires, c.loop-mark.invariant, length-filter (λ (b : Bool). b) seen, count_by-le-length (λ (b : Bool). b) seen, length-take c.loop-mark.mark-index c.args.marks.now)
 

@@ -8,8 +8,8 @@ use Rattle.listings.proofs.listing.paging.write_links.Goals.{then-pair-x, then-s
 pub loop-pair-init : goal.loop-pair-init
 loop-pair-init c = paged_none c.args.x c.args.pairs.now c.args.from c.args.count c.args.out.now
 
-pub overflow-add-seen : goal.overflow-add-seen
-overflow-add-seen c =
+pub overflow_add-seen : goal.overflow_add-seen
+overflow_add-seen c =
     let i = c.loop-pair.pair-index in
     let ps = c.args.pairs.now in
     omega (arith, c.loop-pair.invariant.0, linking_fewer c.args.x (take i ps), length-take i ps)
@@ -27,7 +27,7 @@ loop-pair-preserved c =
       | then-pair-x w ↦
           elim w.if-seen-from.branch [
             | then-seen-from v ↦
-                let after = paged_more x ps i c.args.from c.args.count seen written c.args.out.now c.loop-pair.out _ h w.if-pair-x.true v.if-seen-from.true c.if-written-count.false v.put-link.ensures before in
+                let after = paged_more x ps i c.args.from c.args.count seen written c.args.out.now c.loop-pair.out _ h w.if-pair-x.true v.if-seen-from.true c.if-written-count.false v.put_link.ensures before in
                 rw (w.seen-is, w.written-is, w.out-is, v.written-is, v.out-is) after
             | else-seen-from v ↦
                 let after = paged_skip x ps i c.args.from c.args.count seen written c.args.out.now c.loop-pair.out h w.if-pair-x.true v.if-seen-from.false before in

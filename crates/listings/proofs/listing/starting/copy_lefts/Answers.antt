@@ -6,7 +6,7 @@ use Rattle.listings.proofs.listing.starting.copy_lefts.Goals as goal
 pub loop-s-preserved : goal.loop-s-preserved
 loop-s-preserved g c =
     let r = g.C.Context.relation c.args.context.now in
-    marks_push r.left_present c.loop-s.s _ _ _ c.loop-s.invariant c.left_present.ensures c.in-ok-push.ensures.items
+    marks_push r.left_present c.loop-s.s _ _ _ c.loop-s.invariant c.left_present.ensures c.in_ok-push.ensures.items
 
 pub returns : goal.returns
 returns g c =

@@ -6,7 +6,7 @@ use Rattle.listings.proofs.listing.starting.copy_rights.Goals as goal
 pub loop-t-preserved : goal.loop-t-preserved
 loop-t-preserved g c =
     let r = g.C.Context.relation c.args.context.now in
-    marks_push r.right_present c.loop-t.t _ _ _ c.loop-t.invariant c.right_present.ensures c.in-ok-push.ensures.items
+    marks_push r.right_present c.loop-t.t _ _ _ c.loop-t.invariant c.right_present.ensures c.in_ok-push.ensures.items
 
 pub returns : goal.returns
 returns g c =

@@ -10,12 +10,12 @@ use Rattle.listings.proofs.listing.starting.distinct_codes.Goals as goal
 
 pub loop-pair-preserved : goal.loop-pair-preserved
 loop-pair-preserved c =
-    codes_push c.args.pairs.now c.loop-pair.pair-index no_pair _ _ _ c.loop-pair-test.true c.loop-pair.invariant refl c.in-ok-push.ensures.items
+    codes_push c.args.pairs.now c.loop-pair.pair-index no_pair _ _ _ c.loop-pair-test.true c.loop-pair.invariant refl c.in_ok-push.ensures.items
 
 pub returns : goal.returns
 returns c =
     let all = c.loop-pair.invariant ∙ ap codes_of (take_all c.loop-pair.pair-index c.args.pairs.now c.loop-pair-test.false) in
-    let sorted = subst (λ (xs : List ℕ). IsPermutation xs (vec_items c.sort.new.self)) all c.sort.ensures.permutation in
-    IfOk-weaker c.without-repeats.result _ _
-    (λ v same. members_sorted _ _ (vec_items v) sorted (subst (λ (xs : List ℕ). SameMembers xs (vec_items v)) c.as-slice.ensures.value same))
-    c.without-repeats.ensures
+    let sorted = subst (λ (xs : List ℕ). IsPermutation xs (vec_items c.sort_unstable.new.self)) all c.sort_unstable.ensures.permutation in
+    IfOk-weaker c.without_repeats.result _ _
+    (λ v same. members_sorted _ _ (vec_items v) sorted (subst (λ (xs : List ℕ). SameMembers xs (vec_items v)) c.as_slice.ensures.value same))
+    c.without_repeats.ensures

@@ -5,7 +5,7 @@ use Rattle.std.proofs.lemmas.List.{take_all, take_more, length-take, get_or-take
 use Rattle.lattice.specs.Widening.{SameMembers}
 use Rattle.listings.proofs.Starting.{members_none, members_push, members_repeat}
 use Rattle.listings.proofs.listing.starting.without_repeats.Goals as goal
-use Rattle.listings.proofs.listing.starting.without_repeats.Goals.{then-i-eq0+in-ok-push, else-i-eq0+else-codes-i}
+use Rattle.listings.proofs.listing.starting.without_repeats.Goals.{then-i-eq0+in_ok-push, else-i-eq0+else-codes-i}
 
 pub loop-i-init : goal.loop-i-init
 loop-i-init c = members_none (vec_items c.new-once.result) c.new-once.ensures.items
@@ -21,9 +21,9 @@ loop-i-preserved c =
     let i = c.loop-i.i in
     let more = sym (take_more xs i 0 c.loop-i-test.true) in
     elim c.if-i-eq0.branch [
-      | then-i-eq0+in-ok-push w ↦
+      | then-i-eq0+in_ok-push w ↦
           subst (λ (us : List ℕ). SameMembers us (vec_items c.if-i-eq0.once)) more
-          (subst (SameMembers (take i xs ++ get_or xs i 0 ∷ [])) (sym (ap vec_items w.once-is ∙ w.in-ok-push.ensures.items)) (members_push (take i xs) (vec_items c.loop-i.once) (get_or xs i 0) c.loop-i.invariant))
+          (subst (SameMembers (take i xs ++ get_or xs i 0 ∷ [])) (sym (ap vec_items w.once-is ∙ w.in_ok-push.ensures.items)) (members_push (take i xs) (vec_items c.loop-i.once) (get_or xs i 0) c.loop-i.invariant))
       | else-i-eq0+else-codes-i w ↦
           subst (λ (us : List ℕ). SameMembers us (vec_items c.if-i-eq0.once)) more
           (subst (SameMembers (take i xs ++ get_or xs i 0 ∷ [])) (sym (ap vec_items w.once-is)) (members_repeat (take i xs) (vec_items c.loop-i.once) (get_or xs i 0) (before xs i (get_or xs i 0) (omega (arith, w.if-i-eq0.false)) c.loop-i-test.true w.if-codes-i.false) c.loop-i.invariant))

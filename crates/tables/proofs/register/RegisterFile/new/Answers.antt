@@ -9,5 +9,5 @@ returns-in-Ok c =
     let xs : List ℕ = vec_items c.args.bytes in
     let n = c.args.subjects in
     let m = c.args.properties in
-    let passed = ap (λ (ys : List ℕ). is_some (register_fault ys n m)) (sym c.as-slice.ensures.value) ∙ ap is_some c.in-Ok.ensures.answer in
+    let passed = ap (λ (ys : List ℕ). is_some (register_fault ys n m)) (sym c.as_slice.ensures.value) ∙ ap is_some c.in-Ok.ensures.answer in
     record { answer = search rules; ordered = ordered xs n m (allowed_from xs n m passed) }

@@ -15,12 +15,12 @@ returns-then-s-self c =
 pub floor-requires : goal.floor-requires
 floor-requires c =
     let t = c.args.self.now in
-    subst Rising (sym c.as-slice-bytes.ensures.value) (rising (vec_items t.bytes) t.subjects t.properties (allowed_from _ _ _ t.allowed))
+    subst Rising (sym c.as_slice-bytes.ensures.value) (rising (vec_items t.bytes) t.subjects t.properties (allowed_from _ _ _ t.allowed))
 
 pub floor-requires-2 : goal.floor-requires-2
 floor-requires-2 c =
     let t = c.args.self.now in
-    subst Rising (sym c.as-slice-bytes.ensures.value) (rising (vec_items t.bytes) t.subjects t.properties (allowed_from _ _ _ t.allowed))
+    subst Rising (sym c.as_slice-bytes.ensures.value) (rising (vec_items t.bytes) t.subjects t.properties (allowed_from _ _ _ t.allowed))
 
 pub returns : goal.returns
 returns c =
@@ -29,8 +29,8 @@ returns c =
     let p = c.args.p in
     let low = c.floor.result in
     let high = c.floor-2.result in
-    let ys = c.as-slice-bytes.result.now in
-    let same = c.as-slice-bytes.ensures.value in
+    let ys = c.as_slice-bytes.result.now in
+    let same = c.as_slice-bytes.ensures.value in
     let A : List ℕ → Type 0 = λ zs. Allowed zs t.subjects t.properties in
     let S : List ℕ → Type 0 = λ zs. Span zs s p low high in
     let h : Allowed ys t.subjects t.properties = subst A (sym same) (allowed_from _ _ _ t.allowed) in

@@ -11,17 +11,17 @@ pub loop-k-init : goal.loop-k-init
 loop-k-init c =
     fault_begin c.args.bytes.now c.args.subjects c.args.properties (omega arith) (omega arith) (omega arith) (omega arith)
 
-pub returns-in-err-check-record : goal.returns-in-err-check-record
-returns-in-err-check-record c =
+pub returns-in_err-check_record : goal.returns-in_err-check_record
+returns-in_err-check_record c =
     let xs = c.args.bytes.now in
     let n = c.args.subjects in
     let m = c.args.properties in
     let k = c.loop-k.k in
-    let refused = ap (triple_fault n m k c.loop-k.before) (sym c.triple-at-triple.ensures) ∙ c.in-err-check-record.ensures in
-    let p = err_from_is_err_and c.from-residual.result c.from-residual.ensures.1 in
+    let refused = ap (triple_fault n m k c.loop-k.before) (sym c.triple_at-triple.ensures) ∙ c.in_err-check_record.ensures in
+    let p = err_from_is_err_and c.from_residual.result c.from_residual.ensures.1 in
     record {
       answer = rw (p.1, p.2) (sym c.loop-k.invariant ∙ fault_here (triple_at xs) n m k (length xs / 12) c.loop-k.before _ c.loop-k-test.true refused);
-      small = λ i. omega (arith, c.type-inv.bytes i);
+      small = λ i. omega (arith, c.type_inv.bytes i);
     }
 
 pub loop-k-preserved : goal.loop-k-preserved
@@ -30,8 +30,8 @@ loop-k-preserved c =
     let n = c.args.subjects in
     let m = c.args.properties in
     let k = c.loop-k.k in
-    let read = c.triple-at-triple.ensures in
-    let passed = ap (triple_fault n m k c.loop-k.before) (sym read) ∙ c.in-ok-check-record.ensures in
+    let read = c.triple_at-triple.ensures in
+    let passed = ap (triple_fault n m k c.loop-k.before) (sym read) ∙ c.in_ok-check_record.ensures in
     ap (λ (t : Triple). triples_fault n m (k + 1) (Some t) (map (triple_at xs) (range_with_len (k + 1) (length xs / 12 - (k + 1))))) read
     ∙ sym (fault_next (triple_at xs) n m k (length xs / 12) c.loop-k.before c.loop-k-test.true passed)
     ∙ c.loop-k.invariant

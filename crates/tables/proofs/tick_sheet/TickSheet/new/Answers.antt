@@ -7,5 +7,5 @@ pub returns-in-Ok : goal.returns-in-Ok
 returns-in-Ok c =
     let n = c.args.subjects in
     let m = c.args.properties in
-    let passed = ap (λ (ws : List ℕ). is_some (sheet_fault ws n m)) (sym c.as-slice.ensures.value) ∙ ap is_some c.in-Ok.ensures in
+    let passed = ap (λ (ws : List ℕ). is_some (sheet_fault ws n m)) (sym c.as_slice.ensures.value) ∙ ap is_some c.in-Ok.ensures in
     record { answer = search rules; consistent = (allowed_from (vec_items c.args.words) n m passed).consistent }
