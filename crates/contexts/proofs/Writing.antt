@@ -1,12 +1,11 @@
 -- What stands where in the words of a relation's book.
-use Rattle.std.proofs.Common.{◌≡◌, ℕ, zero, suc, ◌+◌, ◌-◌, ◌*◌, ◌/◌, ◌%◌, ◌^◌, ◌<◌, ◌≤◌, Bool, true, false, cond, ◌&&◌, ◌||◌, eqb, ltb, leb, List, [], ◌∷◌, ◌++◌, map, length, get_or, Some, None, sym, refl, ap, ◌∙◌, ⊎_elim, add-zero, mod-lt, suc-mul, div-lt_iff_lt-mul, mul-zero, div-add-mod', zero-add, zero-mul, arith, length-append}
-use mathlib.Core.Path.{fun_ext}
+use Rattle.std.proofs.Common.{◌≡◌, ℕ, zero, suc, ◌+◌, ◌-◌, ◌*◌, ◌/◌, ◌%◌, ◌^◌, ◌<◌, ◌≤◌, Bool, true, false, cond, ◌&&◌, ◌||◌, eqb, ltb, leb, List, ◌++◌, map, length, get_or, Some, None, sym, refl, ap, ◌∙◌, ⊎_elim, add-zero, mod-lt, suc-mul, div-lt_iff_lt-mul, mul-zero, div-add-mod', zero-add, zero-mul, arith, length-append}
 use Rattle.std.proofs.lemmas.List.FromFn.{length-map-range_with_len, get_or-map-range_with_len}
 use Rattle.std.proofs.lemmas.List.{get_or_append_left, get_or-append_right}
-use Rattle.std.proofs.lemmas.Bool.{cond-true, cond-false, and_from, le-leb, lt-ltb, le-ltb, ltb-true, eq-eqb, cases_lt, cases_Bool, and_left, and_right, or_left, or_right}
+use Rattle.std.proofs.lemmas.Bool.{cond-true, cond-false, and_from, le-leb, lt-ltb, le-ltb, eq-eqb, cases_lt, cases_Bool, and_left, and_right, or_left, or_right}
 use Rattle.std.specs.List.{range_with_len, flat_map}
 use Rattle.lattice.specs.Sets.{range}
-use Rattle.records.specs.Questions.{ask, first_no}
+use Rattle.records.specs.Questions.{first_no}
 use Rattle.contexts.specs.Book.{presence_word, book_size, book_words, pair_place, book}
 use Rattle.contexts.specs.BookOpening.{presence_known, both_present, code_allowed, first_failing, book_fault}
 use Rattle.contexts.specs.Laws.{BooksComeBack}

@@ -1,4 +1,4 @@
-use Rattle.std.specs.Prelude.{ℕ, zero, suc, ◌+◌, ◌-◌, ◌*◌, ◌/◌, ◌%◌, ◌^◌, Bool, cond, ◌&&◌, ◌||◌, List, length, None, Option, ◌==◌, nat_le, nat_lt, slice_index}
+use Rattle.std.specs.Prelude.{ℕ, zero, suc, ◌+◌, ◌-◌, ◌*◌, ◌/◌, ◌%◌, ◌^◌, Bool, ◌&&◌, ◌||◌, List, length, None, Option, ◌==◌, nat_le, nat_lt, slice_index}
 use Rattle.records.specs.Questions.{ask, first_no}
 use Rattle.records.specs.Refusals.{Refusal}
 use Rattle.contexts.specs.Book.{book_size}

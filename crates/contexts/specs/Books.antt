@@ -1,12 +1,12 @@
 -- What the questions to a book's words make sure of.
-use Rattle.std.specs.Prelude.{◌≡◌, ℕ, ◌+◌, ◌-◌, ◌*◌, ◌/◌, ◌%◌, ◌^◌, ◌<◌, ◌≤◌, Bool, true, false, cond, ◌&&◌, ◌||◌, ltb, List, length, is_some, ◌==◌, nat_eq, nat_le, nat_lt, slice_index, refl}
+use Rattle.std.specs.Prelude.{◌≡◌, ℕ, ◌+◌, ◌-◌, ◌*◌, ◌/◌, ◌%◌, ◌^◌, ◌<◌, ◌≤◌, Bool, true, false, ◌&&◌, ◌||◌, ltb, List, length, is_some, ◌==◌, nat_eq, nat_le, nat_lt, slice_index, refl}
 use Rattle.std.proofs.Common.{sym, ap, ◌∙◌, ⊎_elim, arith, mul-le-mul_right, add-mul, one-mul, pow_pos}
 use Rattle.std.proofs.Math.Arith.{digits_div, digits_mod}
 use Rattle.std.proofs.lemmas.Bool.{and_parts, and_left, and_right, and_cases, leb-true, ltb-true, lt-ltb, le-ltb, eqb-true, cond_both, true≢false}
 use Rattle.records.proofs.Questions.{answered, both_answered}
 use Rattle.contexts.specs.Book.{book, book_size, pair_place}
 use Rattle.contexts.specs.BookOpening.{presence_known, both_present, code_allowed, first_failing, book_fault}
-use Rattle.contexts.specs.Relation.{Relation, Sound}
+use Rattle.contexts.specs.Relation.{Sound}
 use Rattle.contexts.specs.Failing.{all_pass}
 
 -- the word of a pair lies in the book

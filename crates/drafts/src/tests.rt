@@ -103,7 +103,7 @@ fn lists_pairs(
         pair(1, 1, 193),
         pair(2, 2, 3),
     ];
-    assert!(rt; live.coded_pairs(heap)?.as_slice() == &expected);
+    assert!(rt; live.coded_pairs(heap)?.as_slice() == expected.as_slice());
     Ok(())
 }
 

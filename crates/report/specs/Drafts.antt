@@ -1,4 +1,4 @@
-use Rattle.std.specs.Prelude.{◌≡◌, ℕ, ◌+◌, Bool, List, [], ◌∷◌, length, Some, None, Ok, Err, vec_items, filter, Option, Result, nat_eq}
+use Rattle.std.specs.Prelude.{◌≡◌, ℕ, ◌+◌, List, [], ◌∷◌, length, Some, None, Ok, Err, vec_items, filter, Option, Result, nat_eq}
 use Rattle.std.specs.Option.{option_map}
 use Rattle.records.specs.Fields.{fields_in}
 use Rattle.records.specs.Kinds.{condition_of, kind_number}

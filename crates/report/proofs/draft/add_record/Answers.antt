@@ -1,4 +1,4 @@
-use Rattle.std.proofs.Common.{vec_items, sym, ◌∙◌, arith}
+use Rattle.std.proofs.Common.{vec_items, arith}
 use Rattle.records.specs.Kinds.{condition_of, kind_known}
 use Rattle.drafts.specs.Drafting.{draft_refusal}
 use Rattle.report.specs.Drafts.{condition_at}

@@ -1,7 +1,6 @@
-use Rattle.std.proofs.Common.{ℕ, ◌+◌, List, drop, vec_items, sym, ap, ◌∙◌}
+use Rattle.std.proofs.Common.{◌+◌, List, drop, vec_items, sym, ap, ◌∙◌}
 use Rattle.records.specs.Kinds.{condition_of}
 use Rattle.records.specs.Reading.{bodies}
-use Rattle.records.specs.declared.kinds.condition.Condition.{Condition}
 use Rattle.drafts.specs.declared.comparison.Comparison.{Comparison}
 use Rattle.report.specs.Drafts.{condition_at, conditions_fault, drafted}
 use Rattle.report.specs.Files.{file_refusal}

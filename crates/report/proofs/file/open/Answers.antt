@@ -1,7 +1,7 @@
-use Rattle.std.proofs.Common.{◌≡◌, ℕ, ◌+◌, ◌/◌, ◌%◌, ◌<◌, ◌≤◌, not, List, [], ◌∷◌, ◌++◌, map, length, Some, vec_items, sym, ap, ◌∙◌, arith}
+use Rattle.std.proofs.Common.{◌≡◌, ℕ, ◌/◌, ◌<◌, not, [], ◌∷◌, ◌++◌, map, length, Some, vec_items, sym, ap, ◌∙◌, arith}
 use Rattle.std.proofs.lemmas.Bool.{cond-true}
 use Rattle.std.specs.List.{range_with_len}
-use Rattle.records.specs.Refusals.{Refusal, read_refusal}
+use Rattle.records.specs.Refusals.{read_refusal}
 use Rattle.report.specs.Files.{length_fault, file_refusal}
 use Rattle.report.proofs.Opening.{body_at, body_read, body_refused, fault_more, fault_here, fault_none, file_passes, file_fails, body_push}
 use Rattle.report.proofs.file.open.Goals as goal

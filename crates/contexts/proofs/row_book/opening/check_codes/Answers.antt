@@ -1,4 +1,4 @@
-use Rattle.std.proofs.Common.{◌≡◌, ℕ, ◌+◌, ◌-◌, ◌*◌, length, sym, ap, ◌∙◌, arith}
+use Rattle.std.proofs.Common.{◌≡◌, ◌+◌, ◌-◌, ◌*◌, length, sym, ap, ◌∙◌, arith}
 use Rattle.contexts.specs.BookOpening.{code_allowed, first_failing}
 use Rattle.contexts.specs.Failing.{failing_more, failing_here, failing_none}
 use Rattle.contexts.proofs.row_book.opening.check_codes.Goals as goal

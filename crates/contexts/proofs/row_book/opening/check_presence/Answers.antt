@@ -1,4 +1,4 @@
-use Rattle.std.proofs.Common.{get_or, sym, refl, ◌∙◌}
+use Rattle.std.proofs.Common.{get_or, ◌∙◌}
 use Rattle.std.proofs.lemmas.Bool.{le-leb, lt-leb}
 use Rattle.contexts.specs.BookOpening.{presence_known}
 use Rattle.contexts.specs.Failing.{failing_more, failing_here, failing_none}

@@ -1,4 +1,4 @@
-use Rattle.std.proofs.Common.{◌≡◌, ℕ, ◌+◌, ◌*◌, not, ◌++◌, length, take, drop, is_ok, None, vec_items, sym, ap, ◌∙◌, arith, rules}
+use Rattle.std.proofs.Common.{◌≡◌, ℕ, ◌+◌, ◌*◌, not, ◌++◌, length, take, drop, is_ok, None, vec_items, ap, ◌∙◌, arith, rules}
 use Rattle.contexts.specs.Book.{book}
 use Rattle.contexts.specs.BookOpening.{book_fault}
 use Rattle.drafts.specs.Live.{live}

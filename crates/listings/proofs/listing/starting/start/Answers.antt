@@ -1,4 +1,4 @@
-use Rattle.std.proofs.Common.{true, false, List, vec_items, sym, refl, ap, ◌∙◌, arith}
+use Rattle.std.proofs.Common.{List, vec_items, sym, refl, ap, ◌∙◌, arith}
 use Rattle.std.proofs.lemmas.Bool.{false≢true}
 use Rattle.contexts.specs.Pairs.{coded_pairs}
 use Rattle.contexts.specs.declared.coded_pair.CodedPair.{CodedPair}
