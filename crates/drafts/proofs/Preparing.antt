@@ -1,7 +1,7 @@
 -- Prepared comparisons hold where the comparisons do, and have the same codes.
 use Rattle.std.proofs.Common.{◌≡◌, ℕ, zero, suc, ◌+◌, ◌<◌, List, [], ◌∷◌, ◌++◌, length, get_or, take, vec_items, vec_len, Vec, sym, refl, ap, ◌∙◌, subst, ap₂, zero-add, arith}
 use Rattle.std.specs.declared.alloc.Global.{Global}
-use Rattle.std.specs.List.{AllByRecursion as All}
+use Rattle.std.specs.List.{AllByRecursion}
 use Rattle.std.proofs.lemmas.List.FromFn.{length-map-range_with_len, get_or-map-range_with_len}
 use Rattle.std.proofs.lemmas.List.{length-map, get_or-map, take_more}
 use Rattle.lattice.specs.Sets.{code_of}
@@ -42,7 +42,7 @@ list_held m v s p e h =
     ap (λ (xs : List (List ℕ)). get_or xs s []) e ∙ get_or-map-range_with_len (λ s. m.values s p) 0 m.subjects s s [] h (zero-add s)
 
 -- so each subject has its list
-pub all_held : (l r : Meaning) (cs : List Comparison) (ps : List Prepared) (s : ℕ) → AllPrepared l r cs ps → s < l.subjects → All (HasLists s r.subjects) ps
+pub all_held : (l r : Meaning) (cs : List Comparison) (ps : List Prepared) (s : ℕ) → AllPrepared l r cs ps → s < l.subjects → AllByRecursion (HasLists s r.subjects) ps
 all_held l r [] [] s all h = tt
 all_held l r [] (p ∷ ps) s all h = absurd all
 all_held l r (c ∷ cs) [] s all h = absurd all

@@ -1,6 +1,6 @@
 -- The numbers that pass a test, in ascending order.
 use Rattle.std.proofs.Common.{◌≡◌, ℕ, zero, suc, ◌+◌, ◌-◌, ◌<◌, ◌≤◌, Bool, true, false, cond, List, ◌∷◌, length, get_or, Some, None, filter, sym, refl, ap, ◌∙◌, ⊎_elim, arith}
-use Rattle.std.specs.List.{range_with_len, ContainsAt as Has, AllByRecursion as All}
+use Rattle.std.specs.List.{range_with_len, ContainsAt as Has, AllByRecursion}
 use Rattle.std.proofs.ByRecursion.{All-get_or, all_kept_by, kept_by_passes}
 use Rattle.std.proofs.lemmas.Bool.{false≢true, both_ways, cases_eq, cases_lt, cases_Bool}
 use Rattle.lattice.specs.Candidates.{last_of}
@@ -74,7 +74,7 @@ pub found_none : (test : ℕ → Bool) (n x : ℕ) → least_above test n x ≡ 
 unfolding least_above NoneAbove
 found_none test n x e y b p m = first_is_none test (x + 1) (n - (x + 1)) e y (omega arith) p (omega arith)
 
-counted_within : (low high a n : ℕ) → low ≤ a → a + n ≤ high → All (λ y. (low ≤ y) × (y < high)) (range_with_len a n)
+counted_within : (low high a n : ℕ) → low ≤ a → a + n ≤ high → AllByRecursion (λ y. (low ≤ y) × (y < high)) (range_with_len a n)
 counted_within low high a zero h l = tt
 counted_within low high a (suc n) h l = ((h, omega arith), counted_within low high (a + 1) n (omega arith) (omega arith))
 
@@ -104,7 +104,7 @@ kept_ascends test a (suc n) i j h l = go (test a) i j h l (kept_ascends test (a 
     go false i j h l more = more i j h l
     go true zero zero h l more = absurd (omega arith)
     go true zero (suc j) h l more =
-        let inside : All (λ y. (a + 1 ≤ y) × (y < a + 1 + n)) rest =
+        let inside : AllByRecursion (λ y. (a + 1 ≤ y) × (y < a + 1 + n)) rest =
         all_kept_by test (λ y. (a + 1 ≤ y) × (y < a + 1 + n)) (range_with_len (a + 1) n) (counted_within (a + 1) (a + 1 + n) (a + 1) n (omega arith) (omega arith))
         in
         let there = All-get_or (λ y. (a + 1 ≤ y) × (y < a + 1 + n)) rest j 0 (omega arith) inside in

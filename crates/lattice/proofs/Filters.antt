@@ -1,6 +1,6 @@
 -- Tests of every element of a list, and of the elements that a filter keeps.
 use Rattle.std.proofs.Common.{◌≡◌, ℕ, zero, suc, ◌+◌, ◌<◌, ◌≤◌, Bool, true, false, cond, ◌&&◌, List, [], ◌∷◌, map, filter, sym, refl, ap, ◌∙◌, ap₂, ⊎_elim, arith}
-use Rattle.std.specs.List.{range_with_len, ContainsAt as Has, AllByRecursion as All}
+use Rattle.std.specs.List.{range_with_len, ContainsAt as Has, AllByRecursion}
 use Rattle.std.proofs.ByRecursion.{all-has}
 use Rattle.std.proofs.lemmas.Bool.{false≢true, cases_eq, and_parts, and_from}
 use Rattle.lattice.specs.Sets.{every, empty}
@@ -47,11 +47,11 @@ every_kept {X} p test (x ∷ xs) f = go (p x) (f x (has_here x xs)) (every_kept 
     go false here rest = rest
 
 -- And what holds of all that is kept holds of each element that the filter passes.
-kept_each : {X : Type 0} (p test : X → Bool) (xs : List X) → every test (filter p xs) ≡ true → All (λ x. p x ≡ true → test x ≡ true) xs
+kept_each : {X : Type 0} (p test : X → Bool) (xs : List X) → every test (filter p xs) ≡ true → AllByRecursion (λ x. p x ≡ true → test x ≡ true) xs
 kept_each p test [] e = tt
 kept_each p test (x ∷ xs) e = go (p x) e (kept_each p test xs)
   where
-    go : (b : Bool) → every test (cond b (x ∷ filter p xs) (filter p xs)) ≡ true → (every test (filter p xs) ≡ true → All (λ y. p y ≡ true → test y ≡ true) xs) → (b ≡ true → test x ≡ true) × All (λ y. p y ≡ true → test y ≡ true) xs
+    go : (b : Bool) → every test (cond b (x ∷ filter p xs) (filter p xs)) ≡ true → (every test (filter p xs) ≡ true → AllByRecursion (λ y. p y ≡ true → test y ≡ true) xs) → (b ≡ true → test x ≡ true) × AllByRecursion (λ y. p y ≡ true → test y ≡ true) xs
     go true e more = let both = and_parts (test x) (every test (filter p xs)) e in ((λ h. both.0), more both.1)
     go false e more = ((λ h. absurd (false≢true h)), more e)
 

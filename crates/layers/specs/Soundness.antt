@@ -1,7 +1,7 @@
 -- The folding and the pick layer of a sound meaning are sound.
 use Rattle.std.specs.Prelude.{◌≡◌, ℕ, ◌^◌, ◌<◌, ◌≤◌, true, List, [], ◌∷◌, map, length, Some, None, Option, ◌==◌, nat_lt, refl}
 use Rattle.std.proofs.Common.{ap, arith}
-use Rattle.std.specs.List.{AllByRecursion as All, slice_get}
+use Rattle.std.specs.List.{AllByRecursion, slice_get}
 use Rattle.std.proofs.ByRecursion.{All-map, All-weaker}
 use Rattle.std.proofs.lemmas.List.{length-map}
 use Rattle.std.proofs.lemmas.Option.{slice_get_past}
@@ -44,5 +44,5 @@ picked_sound t ps few sound =
       empty_if_absent = λ s j e. at_pick t s (λ xs. xs ≡ []) refl (λ p. sound.empty_if_absent s p e) (slice_get ps j);
       empty_beyond = λ s j l. ap (list_at_pick t s) (slice_get_past ps j l);
       short_lists = λ s j. at_pick t s (λ xs. length xs ≤ 65536) (omega arith) (λ p. sound.short_lists s p) (slice_get ps j);
-      four_byte_values = λ s j. at_pick t s (All (λ v. v < 2 ^ 32)) tt (λ p. sound.four_byte_values s p) (slice_get ps j);
+      four_byte_values = λ s j. at_pick t s (AllByRecursion (λ v. v < 2 ^ 32)) tt (λ p. sound.four_byte_values s p) (slice_get ps j);
     }

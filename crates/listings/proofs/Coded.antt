@@ -3,7 +3,7 @@ use Rattle.std.proofs.Common.{◌≡◌, ℕ, ◌*◌, ◌^◌, ◌<◌, ◌≤�
 use mathlib.Core.List.{map-map}
 use lib.Bits.{bit_and, and_comm}
 use lib.ListN.{length-map}
-use Rattle.std.specs.List.{ContainsAt as Has, AllByRecursion as All}
+use Rattle.std.specs.List.{ContainsAt as Has, AllByRecursion}
 use Rattle.std.proofs.lemmas.List.FromFn.{length-map-range_with_len, get_or-map-range_with_len}
 use Rattle.std.proofs.ByRecursion.{All-map, all_kept_by}
 use Rattle.std.proofs.lemmas.List.{map-id, get_or_past}
@@ -21,7 +21,7 @@ use Rattle.listings.proofs.Fitting.{kept_fewer, length_rows}
 use Rattle.listings.proofs.Linking.{has_kept, Within, rows_within, rows_have}
 
 -- The coded pairs are pairs of numbers in range, with codes of the conditions.
-pub coded_within : (c : Relation) → All (λ (p : CodedPair). (p.left < c.lefts) × (p.right < c.rights)) (coded_pairs c)
+pub coded_within : (c : Relation) → AllByRecursion (λ (p : CodedPair). (p.left < c.lefts) × (p.right < c.rights)) (coded_pairs c)
 unfolding coded_pairs pairs
 coded_within c =
     All-map (λ (p : CodedPair). (p.left < c.lefts) × (p.right < c.rights)) (coded c) (filter (has_code c) (pairs c))

@@ -1,7 +1,7 @@
 -- Over a sound relation, what is told of a candidate fits its record.
 use Rattle.std.proofs.Common.{◌≡◌, ℕ, zero, suc, ◌+◌, ◌*◌, ◌/◌, ◌%◌, ◌^◌, ◌<◌, ◌≤◌, Bool, not, List, [], ◌∷◌, length, filter, ◌∙◌, suc-mul, mul-le-mul, arith, length-append, pow_mono}
 use lib.ListN.{length-map}
-use Rattle.std.specs.List.{range_with_len, flat_map, AllByRecursion as All}
+use Rattle.std.specs.List.{range_with_len, flat_map, AllByRecursion}
 use Rattle.std.proofs.lemmas.List.FromFn.{length-range_with_len}
 use Rattle.std.proofs.lemmas.List.Sums.{length-filter, count_by-le-length}
 use Rattle.contexts.specs.Pairs.{row, pairs}
@@ -51,7 +51,7 @@ pub condition_count_fewer : (c : Relation) (x : ℕ) → condition_count c x ≤
 unfolding condition_count
 condition_count_fewer c x = range_fewer (has c.conditions x) c.conditions
 
-pub fields_fit : (c : Relation) → Sound c → (x : ℕ) → x < 2 ^ c.conditions → All (λ f. f < 2 ^ 32) (candidate_fields (candidate_body c x))
+pub fields_fit : (c : Relation) → Sound c → (x : ℕ) → x < 2 ^ c.conditions → AllByRecursion (λ f. f < 2 ^ 32) (candidate_fields (candidate_body c x))
 unfolding candidate_body
 fields_fit c sound x h =
     let width : 2 ^ c.conditions ≤ 2 ^ 64 = pow_mono sound.few_conditions in
@@ -67,11 +67,11 @@ fields_fit c sound x h =
     (lower, (upper, (linked, (left, (right, (lefts, (rights, (conditions, tt))))))))
 
 -- Fields that fit four bytes give bytes.
-bytes_small : (fs : List ℕ) → All (λ f. f < 2 ^ 32) fs → All (λ b. b < 256) (bytes_of fs)
+bytes_small : (fs : List ℕ) → AllByRecursion (λ f. f < 2 ^ 32) fs → AllByRecursion (λ b. b < 256) (bytes_of fs)
 bytes_small [] h = tt
 bytes_small (f ∷ fs) h = let small = h.0 in (omega arith, (omega arith, (omega arith, (omega arith, bytes_small fs h.1))))
 
-pub records_are_bytes : (c : Relation) → Sound c → (x : ℕ) → x < 2 ^ c.conditions → (length (candidate_bytes c x) ≡ 32) × All (λ b. b < 256) (candidate_bytes c x)
+pub records_are_bytes : (c : Relation) → Sound c → (x : ℕ) → x < 2 ^ c.conditions → (length (candidate_bytes c x) ≡ 32) × AllByRecursion (λ b. b < 256) (candidate_bytes c x)
 unfolding candidate_bytes
 records_are_bytes c sound x h =
     let fs = candidate_fields (candidate_body c x) in

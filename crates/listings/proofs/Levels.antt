@@ -2,7 +2,7 @@
 use Rattle.std.proofs.Common.{◌≡◌, ℕ, zero, suc, ◌+◌, ◌*◌, ◌^◌, ◌<◌, ◌≤◌, min, Bool, true, false, cond, eqb, ltb, ◌≢◌, List, [], ◌∷◌, length, get_or, Some, None, vec_items, Option, sym, refl, ap, ◌∙◌, subst, add-zero, mul-le-mul, add-one, arith, pow_mono}
 use lib.Count.{ones}
 use lib.ListN.{length-map}
-use Rattle.std.specs.List.{AllByRecursion as All}
+use Rattle.std.specs.List.{AllByRecursion}
 use Rattle.std.proofs.ByRecursion.{All-weaker}
 use Rattle.std.proofs.lemmas.List.{nil_from_length}
 use Rattle.std.proofs.lemmas.Bool.{both_ways, cond-true, cond-false, le-leb, lt-leb, lt-ltb, le-ltb, eq-eqb, ne_eqb}
@@ -42,11 +42,11 @@ module _ {C : Type 0} (l : Listing C) where
       let area : (relation_of l).lefts * (relation_of l).rights ≤ 2048 * 2048 = mul-le-mul l.few.0 l.few.1 in
       omega (arith, ap length l.coded, coded_fewer (relation_of l))
 
-  pub pairs_within : All Within (vec_items l.pairs)
+  pub pairs_within : AllByRecursion Within (vec_items l.pairs)
   unfolding copied
   pairs_within =
       let few = l.few in
-      subst (All Within) (sym l.coded)
+      subst (AllByRecursion Within) (sym l.coded)
       (All-weaker (λ (p : CodedPair). (p.left < (relation_of l).lefts) × (p.right < (relation_of l).rights)) Within (λ p h. (omega (arith, h.0, few.0), omega (arith, h.1, few.1))) (coded_pairs (relation_of l)) (coded_within (relation_of l)))
 
   -- the links of a code, off the listing's own pairs

@@ -1,6 +1,6 @@
 -- The links of a set are the pairs that it links, and no others.
 use Rattle.std.proofs.Common.{◌≡◌, ℕ, zero, suc, ◌+◌, ◌<◌, ◌≤◌, Bool, true, false, cond, List, [], ◌∷◌, length, get_or, filter, ap, ◌∙◌, subst, ⊎_elim, arith}
-use Rattle.std.specs.List.{range_with_len, flat_map, ContainsAt as Has, AllByRecursion as All}
+use Rattle.std.specs.List.{range_with_len, flat_map, ContainsAt as Has, AllByRecursion}
 use Rattle.std.proofs.lemmas.List.FromFn.{length-map-range_with_len, get_or-map-range_with_len}
 use Rattle.std.proofs.ByRecursion.{All-append, All-map, All-weaker, all-has, all_has_itself, all_kept_by, kept_by_passes, has_append_left, has_append_right}
 use Rattle.std.proofs.lemmas.Bool.{and_parts, and_from, cases_eq, false≢true}
@@ -37,11 +37,11 @@ has_kept {X} test xs x m e = go xs m.0 m.1 m.2
 abbrev pub Within : ℕ → ℕ → ℕ × ℕ → Type 0
 Within lefts rights p = (p.0 < lefts) × (p.1 < rights)
 
-pub counted_below : (high a n : ℕ) → a + n ≤ high → All (λ t. t < high) (range_with_len a n)
+pub counted_below : (high a n : ℕ) → a + n ≤ high → AllByRecursion (λ t. t < high) (range_with_len a n)
 counted_below high a zero h = tt
 counted_below high a (suc n) h = (omega arith, counted_below high (a + 1) n (omega arith))
 
-pub rows_within : (lefts rights a n : ℕ) → a + n ≤ lefts → All (Within lefts rights) (flat_map (row rights) (range_with_len a n))
+pub rows_within : (lefts rights a n : ℕ) → a + n ≤ lefts → AllByRecursion (Within lefts rights) (flat_map (row rights) (range_with_len a n))
 rows_within lefts rights a zero h = tt
 rows_within lefts rights a (suc n) h =
     All-append (Within lefts rights) (row rights a) (flat_map (row rights) (range_with_len (a + 1) n))

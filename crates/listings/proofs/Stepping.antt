@@ -1,7 +1,7 @@
 -- The candidates of a sound relation are those of the codes of its coded pairs.
 use Rattle.std.proofs.Common.{◌≡◌, ℕ, zero, suc, ◌^◌, ◌<◌, Bool, true, false, cond, not, ◌&&◌, eqb, List, [], ◌∷◌, map, filter, sym, refl, ap, ◌∙◌, subst, ap₂, arith}
 use mathlib.Core.List.{map-map}
-use Rattle.std.specs.List.{ContainsAt as Has, AllByRecursion as All}
+use Rattle.std.specs.List.{ContainsAt as Has, AllByRecursion}
 use Rattle.std.proofs.ByRecursion.{all-has}
 use Rattle.std.proofs.lemmas.Bool.{and_parts, eqb-true, false≢true}
 use Rattle.contexts.specs.Pairs.{pairs, pair_code, has_code, coded, coded_pairs}
@@ -23,7 +23,7 @@ use Rattle.listings.proofs.Linking.{kept_has}
 use Rattle.listings.proofs.Marks.{range_below}
 
 -- Where every element passes, each does.
-every_all : {X : Type 0} (test : X → Bool) (xs : List X) → every test xs ≡ true → All (λ x. test x ≡ true) xs
+every_all : {X : Type 0} (test : X → Bool) (xs : List X) → every test xs ≡ true → AllByRecursion (λ x. test x ≡ true) xs
 every_all test [] e = tt
 every_all test (x ∷ xs) e = let both = and_parts (test x) (every test xs) e in (both.0, every_all test xs both.1)
 

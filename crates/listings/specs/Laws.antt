@@ -1,6 +1,6 @@
 -- What holds of every listing.
 use Rattle.std.specs.Prelude.{◌≡◌, ℕ, ◌+◌, ◌*◌, ◌^◌, ◌<◌, ◌≤◌, true, List, [], ◌++◌, length, take, drop, ◌≢◌, bit_and, slice_index}
-use Rattle.std.specs.List.{ContainsAt as Has, AllByRecursion as All}
+use Rattle.std.specs.List.{ContainsAt as Has, AllByRecursion}
 use Rattle.contexts.specs.Relation.{Relation, Sound}
 use Rattle.lattice.specs.Candidates as of-codes
 use Rattle.lattice.specs.Sets.{has, whole, includes}
@@ -80,11 +80,11 @@ CandidatesByCodes = (c : Relation) (codes : List ℕ) → SameMembers (present_c
 
 -- Over a sound relation every field of a candidate fits four bytes.
 abbrev pub FieldsFit : Type 0
-FieldsFit = (c : Relation) → Sound c → (x : ℕ) → x < 2 ^ c.conditions → All (λ f. f < 2 ^ 32) (candidate_fields (candidate_body c x))
+FieldsFit = (c : Relation) → Sound c → (x : ℕ) → x < 2 ^ c.conditions → AllByRecursion (λ f. f < 2 ^ 32) (candidate_fields (candidate_body c x))
 
 -- So its record is 32 bytes.
 abbrev pub RecordsAreBytes : Type 0
-RecordsAreBytes = (c : Relation) → Sound c → (x : ℕ) → x < 2 ^ c.conditions → (length (candidate_bytes c x) ≡ 32) × All (λ b. b < 256) (candidate_bytes c x)
+RecordsAreBytes = (c : Relation) → Sound c → (x : ℕ) → x < 2 ^ c.conditions → (length (candidate_bytes c x) ≡ 32) × AllByRecursion (λ b. b < 256) (candidate_bytes c x)
 
 -- The answers by the relation keep to it, whatever is asked.
 abbrev pub RepliesKeep : Type 0

@@ -1,5 +1,5 @@
 use Rattle.std.specs.Prelude.{◌≡◌, ℕ, ◌^◌, ◌<◌, ◌≤◌, Bool, true, false, cond, List, [], ◌∷◌, length, ◌==◌}
-use Rattle.std.specs.List.{AllByRecursion as All}
+use Rattle.std.specs.List.{AllByRecursion}
 
 -- What a table means: how many subject numbers and properties there are, who is present, and the list of values at each subject and property.
 pub record Meaning : Type 0 where
@@ -16,7 +16,7 @@ pub record Sound (t : Meaning) : Type 0 where
   pub empty_if_absent : (s p : ℕ) → t.present s ≡ false → t.values s p ≡ []
   pub empty_beyond : (s p : ℕ) → t.properties ≤ p → t.values s p ≡ []
   pub short_lists : (s p : ℕ) → length (t.values s p) ≤ 65536
-  pub four_byte_values : (s p : ℕ) → All (λ v. v < 2 ^ 32) (t.values s p)
+  pub four_byte_values : (s p : ℕ) → AllByRecursion (λ v. v < 2 ^ 32) (t.values s p)
 
 -- Whether a value is in a list.
 abbrev pub contains : List ℕ → ℕ → Bool

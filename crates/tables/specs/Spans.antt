@@ -1,7 +1,7 @@
 -- The triples of one subject and property stand together in a register file.
 use Rattle.std.specs.Prelude.{◌≡◌, ℕ, zero, suc, ◌+◌, ◌-◌, ◌*◌, ◌/◌, ◌^◌, ◌<◌, ◌≤◌, Bool, true, false, cond, not, ◌⊎◌, List, [], ◌∷◌, map, length, Some, filter, ◌≢◌, slice_index, refl}
 use Rattle.std.proofs.Common.{sym, ap, ◌∙◌, ⊎_elim, arith}
-use Rattle.std.specs.List.{range_with_len, AllByRecursion as All, slice_get}
+use Rattle.std.specs.List.{range_with_len, AllByRecursion, slice_get}
 use Rattle.std.proofs.lemmas.List.FromFn.{length-map-range_with_len, get_or-map-range_with_len}
 use Rattle.std.proofs.ByRecursion.{All-map, all_kept_by}
 use Rattle.std.proofs.lemmas.List.Filters.{length-filter_both}
@@ -124,14 +124,14 @@ value_small : (xs : List ℕ) → ((i : ℕ) → slice_index xs i < 256) → (k 
 unfolding triple_at
 value_small xs h k = fields_in_below (record_at 12 k xs) (record_below 12 k xs h) 2
 
-all_of : {X : Type 0} (P : X → Type 0) → ((x : X) → P x) → (xs : List X) → All P xs
+all_of : {X : Type 0} (P : X → Type 0) → ((x : X) → P x) → (xs : List X) → AllByRecursion P xs
 all_of P h [] = tt
 all_of P h (x ∷ xs) = (h x, all_of P h xs)
 
-pub values_small : (xs : List ℕ) (s p : ℕ) → ((i : ℕ) → slice_index xs i < 256) → All (λ v. v < 2 ^ 32) (values_of (triples_in xs) s p)
+pub values_small : (xs : List ℕ) (s p : ℕ) → ((i : ℕ) → slice_index xs i < 256) → AllByRecursion (λ v. v < 2 ^ 32) (values_of (triples_in xs) s p)
 values_small xs s p h =
     let P : Triple → Type 0 = λ t. t.value < 2 ^ 32 in
-    let each : All P (triples_in xs) =
+    let each : AllByRecursion P (triples_in xs) =
     rw triples_by_number (All-map P (triple_at xs) (range_with_len 0 (length xs / 12)) (all_of (λ k. P (triple_at xs k)) (value_small xs h) (range_with_len 0 (length xs / 12))))
     in
     All-map (λ v. v < 2 ^ 32) (λ t. t.value) (filter (is_of s p) (triples_in xs)) (all_kept_by (is_of s p) P (triples_in xs) each)

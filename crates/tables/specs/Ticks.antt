@@ -2,7 +2,7 @@
 use Rattle.std.specs.Prelude.{◌≡◌, ℕ, zero, suc, ◌+◌, ◌-◌, ◌/◌, ◌%◌, ◌^◌, ◌<◌, ◌≤◌, Bool, true, false, cond, not, List, [], ◌∷◌, length, Some, filter, ◌==◌, ◌≢◌, refl}
 use Rattle.std.proofs.Common.{sym, ap, subst, ◌∙◌, arith, shr-shr}
 use Rattle.std.specs.Int.Count.{ones, ones_step}
-use Rattle.std.specs.List.{range_with_len, AllByRecursion as All, slice_get}
+use Rattle.std.specs.List.{range_with_len, AllByRecursion, slice_get}
 use Rattle.std.proofs.lemmas.Nat.{shr_below}
 use Rattle.std.proofs.lemmas.List.FromFn.{length-range_with_len}
 use Rattle.std.proofs.ByRecursion.{all_kept_by}
@@ -81,11 +81,11 @@ pub ticked_short : (w : ℕ) → length (ticked w) ≤ 65536
 unfolding ticked
 ticked_short w = kept_at_most (is_ticked w) 64 65536 (omega arith)
 
-counting_small : (k v : ℕ) → v + k ≤ 64 → All (λ x. x < 2 ^ 32) (range_with_len v k)
+counting_small : (k v : ℕ) → v + k ≤ 64 → AllByRecursion (λ x. x < 2 ^ 32) (range_with_len v k)
 counting_small zero v l = tt
 counting_small (suc k) v l = (omega arith, counting_small k (v + 1) (omega arith))
 
-pub ticked_small : (w : ℕ) → All (λ v. v < 2 ^ 32) (ticked w)
+pub ticked_small : (w : ℕ) → AllByRecursion (λ v. v < 2 ^ 32) (ticked w)
 unfolding ticked
 ticked_small w = all_kept_by (is_ticked w) (λ v. v < 2 ^ 32) (range_with_len 0 64) (counting_small 64 0 (omega arith))
 

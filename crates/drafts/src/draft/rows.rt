@@ -1,6 +1,6 @@
 // Rows of codes: those of one left subject with every right one.
 ghost use Rattle.std.specs.Prelude.{◌≡◌, ℕ, ◌^◌, ◌<◌, ◌≤◌, ◌++◌, map, length, OnOk};
-ghost use Rattle.std.specs.List.{flat_map, AllByRecursion as All};
+ghost use Rattle.std.specs.List.{flat_map, AllByRecursion};
 ghost use Rattle.lattice.specs.Sets.{range};
 ghost use Rattle.drafts.specs.Preparing.{HasLists, coded_from, prepared_code};
 
@@ -16,7 +16,7 @@ pub(super) fn push_rows(
     row: &mut [u64],
 ) -> Result<(), AllocError>
     requires few { length prepared.now ≤ 64 }
-    requires held { (s : ℕ) → s < lefts → All (HasLists s (length row.old)) prepared.now }
+    requires held { (s : ℕ) → s < lefts → AllByRecursion (HasLists s (length row.old)) prepared.now }
     requires numbers { (lefts ≤ 2 ^ 32) × (length row.old ≤ 2 ^ 32) }
     ensures { OnOk result (pairs.new.items ≡ pairs.old.items ++ flat_map (λ s. coded_from s 0 (map (prepared_code prepared.now s) (range (length row.old)))) (range lefts)) }
 {
@@ -30,7 +30,7 @@ pub(super) fn push_rows(
 // Writes the codes of left subject `s`, comparison by comparison, so that one left list meets all right ones in turn.
 fn write_row(prepared: &[Prepared], s: usize, row: &mut [u64])
     requires few { length prepared.now ≤ 64 }
-    requires held { All (HasLists s (length row.old)) prepared.now }
+    requires held { AllByRecursion (HasLists s (length row.old)) prepared.now }
     ensures { row.new ≡ map (prepared_code prepared.now s) (range (length row.old)) }
 {
     row.fill(0);

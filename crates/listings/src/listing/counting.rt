@@ -1,6 +1,6 @@
 // Counting the links of a code, in one pass over the pairs that have one.
 ghost use Rattle.std.specs.Prelude.{◌≡◌, ◌^◌, ◌<◌, ◌≤◌, length};
-ghost use Rattle.std.specs.List.{AllByRecursion as All};
+ghost use Rattle.std.specs.List.{AllByRecursion};
 ghost use Rattle.listings.specs.Copied.{Within, linking, marked_count, marks_set, left_of, right_of};
 
 use contexts::CodedPair;
@@ -19,7 +19,7 @@ pub(super) struct LinkCounts {
 // Counts those of the pairs that have every condition of `x`.
 pub(super) fn count_links(pairs: &[CodedPair], x: u64) -> LinkCounts
     requires few { length pairs.now < 2 ^ 32 }
-    requires within { All Within pairs.now }
+    requires within { AllByRecursion Within pairs.now }
     ensures links { result.links ≡ length (linking x pairs.now) }
     ensures left { result.left ≡ marked_count left_of (linking x pairs.now) }
     ensures right { result.right ≡ marked_count right_of (linking x pairs.now) }

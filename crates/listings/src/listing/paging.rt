@@ -1,6 +1,6 @@
 // Writing the links of a code, from one on.
 ghost use Rattle.std.specs.Prelude.{◌≡◌, ◌+◌, ◌*◌, ◌<◌, ◌≤◌, [], ◌∷◌, length, take, drop};
-ghost use Rattle.std.specs.List.{AllByRecursion as All};
+ghost use Rattle.std.specs.List.{AllByRecursion};
 ghost use Rattle.records.specs.Writing.{put_at};
 ghost use Rattle.listings.specs.Copied.{linking, subjects_of};
 ghost use Rattle.listings.specs.Pages.{link_bytes};

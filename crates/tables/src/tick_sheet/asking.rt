@@ -2,7 +2,7 @@
 ghost use Rattle.std.specs.Prelude.{◌≡◌, ℕ, ◌+◌, ◌^◌, ◌<◌, ◌≤◌, List, [], length, if◌then◌else◌, nat_lt, refl};
 ghost use Rattle.tables.specs.TickSheet.{row, sheet, ticked, tick_word, sheet_present};
 ghost use Rattle.std.proofs.Common.{arith};
-ghost use Rattle.std.specs.List.{AllByRecursion as All};
+ghost use Rattle.std.specs.List.{AllByRecursion};
 ghost use Rattle.std.proofs.lemmas.Bool.{cond_both, cond-false, le-ltb};
 ghost use Rattle.tables.specs.Rows.{Allowed, allowed_from};
 ghost use Rattle.tables.specs.Ticks.{ticked_short, ticked_small};
@@ -50,7 +50,7 @@ impl Table for TickSheet {
           empty_beyond = λ s p l.
               cond_both (sheet_present ws n m s) (if nat_lt p m then ticked (tick_word (row ws m s) p) else []) [] (λ vs. vs ≡ []) (λ _. cond-false _ _ _ (le-ltb p m l)) (λ _. refl);
           short_lists = λ s p. listed (λ vs. length vs ≤ 65536) ws n m s p (omega arith) ticked_short;
-          four_byte_values = λ s p. listed (All (λ v. v < 2 ^ 32)) ws n m s p tt ticked_small;
+          four_byte_values = λ s p. listed (AllByRecursion (λ v. v < 2 ^ 32)) ws n m s p tt ticked_small;
         } };
 
     fn subjects(&self) -> usize {

@@ -1,5 +1,5 @@
 use Rattle.std.proofs.Common.{ℕ, List, ◌++◌, map, length, vec_items, sym, ap, ◌∙◌, subst}
-use Rattle.std.specs.List.{AllByRecursion as All}
+use Rattle.std.specs.List.{AllByRecursion}
 use Rattle.lattice.specs.Sets.{range}
 use Rattle.drafts.specs.Preparing.{HasLists, coded_from, prepared_code}
 use Rattle.drafts.proofs.Pairing.{rows_push}
@@ -7,7 +7,7 @@ use Rattle.drafts.proofs.draft.rows.push_rows.Goals as goal
 
 pub write_row-requires : goal.write_row-requires
 write_row-requires c =
-    let P : ℕ → Type 0 = λ n. All (HasLists c.loop-s.s n) c.args.prepared.now in
+    let P : ℕ → Type 0 = λ n. AllByRecursion (HasLists c.loop-s.s n) c.args.prepared.now in
     record { few = c.requires.few; held = subst P (sym c.loop-s.auto.row) (c.requires.held c.loop-s.s c.loop-s-test.true) }
 
 pub loop-s-preserved : goal.loop-s-preserved

@@ -1,5 +1,5 @@
 use Rattle.std.proofs.Common.{◌^◌, ◌<◌, List, length, sym, refl, ap, ◌∙◌, subst}
-use Rattle.std.specs.List.{AllByRecursion as All}
+use Rattle.std.specs.List.{AllByRecursion}
 use Rattle.contexts.specs.declared.coded_pair.CodedPair.{CodedPair}
 use Rattle.listings.specs.Copied.{Within, linking, marked_count, marks_set, left_of, right_of}
 use Rattle.listings.proofs.Levels.{pairs_few, pairs_within, told_of}
@@ -9,7 +9,7 @@ pub count_links-counts-requires : goal.count_links-counts-requires
 count_links-counts-requires g c =
     let l = c.args.self.now in
     let same = sym c.as_slice.ensures.value in
-    record { few = subst (λ (ps : List CodedPair). length ps < 2 ^ 32) same (pairs_few l); within = subst (All Within) same (pairs_within l) }
+    record { few = subst (λ (ps : List CodedPair). length ps < 2 ^ 32) same (pairs_few l); within = subst (AllByRecursion Within) same (pairs_within l) }
 
 pub returns : goal.returns
 returns g c =

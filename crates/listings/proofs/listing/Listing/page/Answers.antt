@@ -1,5 +1,5 @@
 use Rattle.std.proofs.Common.{◌≡◌, ℕ, ◌-◌, ◌/◌, ◌^◌, ◌<◌, ◌≤◌, min, ◌⊎◌, List, length, take, drop, sym, ap, ◌∙◌, subst, inl, inr, arith}
-use Rattle.std.specs.List.{AllByRecursion as All}
+use Rattle.std.specs.List.{AllByRecursion}
 use Rattle.contexts.specs.declared.coded_pair.CodedPair.{CodedPair}
 use Rattle.records.specs.Writing.{put_at}
 use Rattle.listings.specs.Copied.{Within, linking, subjects_of}
@@ -19,7 +19,7 @@ pub count_links-links-requires : goal.count_links-links-requires
 count_links-links-requires g c =
     let l = c.args.self.now in
     let same = sym c.as_slice-pairs.ensures.value in
-    record { few = subst (λ (ps : List CodedPair). length ps < 2 ^ 32) same (pairs_few l); within = subst (All Within) same (pairs_within l) }
+    record { few = subst (λ (ps : List CodedPair). length ps < 2 ^ 32) same (pairs_few l); within = subst (AllByRecursion Within) same (pairs_within l) }
 
 -- As many links were counted as the last code has.
 counted : (g : given.Over) (c : After-count_links-links g) → c.count_links-links.result.links ≡ length (links (relation_of c.args.self.now) c.args.self.now.last)

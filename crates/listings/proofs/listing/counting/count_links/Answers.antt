@@ -1,5 +1,5 @@
 use Rattle.std.proofs.Common.{ℕ, ◌<◌, List, length, get_or, take, refl, ◌∙◌, arith}
-use Rattle.std.specs.List.{AllByRecursion as All}
+use Rattle.std.specs.List.{AllByRecursion}
 use Rattle.std.proofs.ByRecursion.{All-get_or}
 use Rattle.std.proofs.lemmas.List.{length-take}
 use Rattle.contexts.specs.declared.coded_pair.CodedPair.{CodedPair}
@@ -11,7 +11,7 @@ use Rattle.listings.proofs.listing.counting.count_links.Goals.{then-pair-x, else
 pub loop-pair-init : goal.loop-pair-init
 loop-pair-init c = counted_none c.args.x c.args.pairs.now _ _ refl refl refl refl
 
-inside : (ps : List CodedPair) (i : ℕ) → i < length ps → All Within ps → Within (get_or ps i no_pair)
+inside : (ps : List CodedPair) (i : ℕ) → i < length ps → AllByRecursion Within ps → Within (get_or ps i no_pair)
 inside ps i h all = All-get_or Within ps i no_pair h all
 
 pub bounds-lefts-pair : goal.bounds-lefts-pair

@@ -1,5 +1,5 @@
 use Rattle.std.proofs.Common.{◌≡◌, ℕ, ◌<◌, List, length, vec_items, sym, ◌∙◌, subst, arith, rules}
-use Rattle.std.specs.List.{AllByRecursion as All}
+use Rattle.std.specs.List.{AllByRecursion}
 use Rattle.drafts.specs.Preparing.{AllPrepared, HasLists}
 use Rattle.drafts.specs.declared.comparison.Comparison.{Comparison}
 use Rattle.drafts.specs.declared.draft.prepared.Prepared.{Prepared}
@@ -36,7 +36,7 @@ push_rows-requires g c =
     record {
       few = omega (arith, as_many l r cs ps all.0, v.few, v.comparisons.ok.0);
       held = λ s h.
-          let P : ℕ → Type 0 = λ n. All (HasLists s n) ps in
+          let P : ℕ → Type 0 = λ n. AllByRecursion (HasLists s n) ps in
           let inside : s < l.subjects = omega (arith, h, c.subjects-lefts.ensures) in
           subst P (sym all.1) (all_held l r cs ps s all.0 inside);
       numbers = (omega (arith, c.subjects-lefts.ensures, (g.met.L.Table.sound v.left).few_subjects), omega (arith, all.1, (g.met.R.Table.sound v.right).few_subjects));
