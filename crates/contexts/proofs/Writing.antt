@@ -22,22 +22,22 @@ length_rows code rights a (suc n) =
     length-append (map (code a) (range rights)) (rows code rights (a + 1) n)
     ∙ omega (arith, length-map-range_with_len (code a) 0 rights, length_rows code rights (a + 1) n, suc-mul n rights)
 
-get_d_rows : (code : ℕ → ℕ → ℕ) (rights a n s t : ℕ) → s < n → t < rights → get_or (rows code rights a n) (s * rights + t) 0 ≡ code (a + s) t
-get_d_rows code rights a zero s t hs ht = absurd (omega arith)
-get_d_rows code rights a (suc n) zero t hs ht =
+get_or_rows : (code : ℕ → ℕ → ℕ) (rights a n s t : ℕ) → s < n → t < rights → get_or (rows code rights a n) (s * rights + t) 0 ≡ code (a + s) t
+get_or_rows code rights a zero s t hs ht = absurd (omega arith)
+get_or_rows code rights a (suc n) zero t hs ht =
     let first = map (code a) (range rights) in
     let here : 0 * rights + t ≡ t = omega (arith, zero-mul rights) in
     ap (λ (k : ℕ). get_or (rows code rights a (suc n)) k 0) here
     ∙ get_or_append_left first (rows code rights (a + 1) n) 0 t (omega (arith, length-map-range_with_len (code a) 0 rights))
     ∙ get_or-map-range_with_len (code a) 0 rights t t 0 ht (zero-add t)
     ∙ ap (λ (k : ℕ). code k t) (sym (add-zero a))
-get_d_rows code rights a (suc n) (suc s) t hs ht =
+get_or_rows code rights a (suc n) (suc s) t hs ht =
     let first = map (code a) (range rights) in
     let l = length-map-range_with_len (code a) 0 rights in
     let there : suc s * rights + t - rights ≡ s * rights + t = omega (arith, suc-mul s rights) in
     get_or-append_right first (rows code rights (a + 1) n) rights (suc s * rights + t) 0 l (omega (arith, suc-mul s rights))
     ∙ ap (λ (k : ℕ). get_or (rows code rights (a + 1) n) k 0) there
-    ∙ get_d_rows code rights (a + 1) n s t (omega arith) ht
+    ∙ get_or_rows code rights (a + 1) n s t (omega arith) ht
     ∙ ap (λ (k : ℕ). code k t) (omega arith)
 
 -- three parts one behind another
@@ -84,7 +84,7 @@ pair_word c s t hs ht =
     get_or-append_right (map f (range c.lefts)) (map g (range c.rights) ++ codes) c.lefts i 0 (length-map-range_with_len f 0 c.lefts) (omega arith)
     ∙ get_or-append_right (map g (range c.rights)) codes c.rights (i - c.lefts) 0 (length-map-range_with_len g 0 c.rights) (omega arith)
     ∙ ap (λ (k : ℕ). get_or codes k 0) there
-    ∙ get_d_rows c.code c.rights 0 c.lefts s t hs ht
+    ∙ get_or_rows c.code c.rights 0 c.lefts s t hs ht
     ∙ ap (λ (k : ℕ). c.code k t) (zero-add s)
 
 -- a presence word tells who is present

@@ -20,5 +20,5 @@ pub record AlikeAt (ps : List ℕ) (t u : Meaning) : Type 0 where
 
 -- Tables that are alike to these at the properties that the comparisons name have the same relation.
 abbrev pub AlikeTablesRelateAlike : Meaning → Meaning → List Comparison → Type 0
-AlikeTablesRelateAlike left-meaning right-meaning cs =
-    (l r : Meaning) → AlikeAt (lefts_named cs) left-meaning l → AlikeAt (rights_named cs) right-meaning r → live left-meaning right-meaning cs ≡ live l r cs
+AlikeTablesRelateAlike left_meaning right_meaning cs =
+    (l r : Meaning) → AlikeAt (lefts_named cs) left_meaning l → AlikeAt (rights_named cs) right_meaning r → live left_meaning right_meaning cs ≡ live l r cs

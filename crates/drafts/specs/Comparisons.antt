@@ -15,7 +15,7 @@ agree Share xs ys = shares xs ys
 
 -- Whether a comparison holds for left subject s and right subject t: their lists at its properties agree.
 abbrev pub comparison_holds : Meaning → Meaning → Comparison → ℕ → ℕ → Bool
-comparison_holds left-meaning right-meaning c s t = agree c.kind (left-meaning.values s c.left) (right-meaning.values t c.right)
+comparison_holds left_meaning right_meaning c s t = agree c.kind (left_meaning.values s c.left) (right_meaning.values t c.right)
 
 -- The comparison that a condition asks for, or nothing where its kind is not known.
 abbrev pub comparison_of : Condition → Option Comparison

@@ -10,21 +10,21 @@ use Rattle.drafts.specs.declared.draft.DraftFault.TheVariants.{UnknownKind, Unkn
 
 -- The first no to one more comparison over tables of so many properties.
 abbrev pub comparison_fault : ℕ → ℕ → List Comparison → Comparison → Option Refusal
-comparison_fault left-properties right-properties cs c =
-    ask (nat_lt c.left left-properties) (15, 0)
-    (ask (nat_lt c.right right-properties) (16, 0)
+comparison_fault left_properties right_properties cs c =
+    ask (nat_lt c.left left_properties) (15, 0)
+    (ask (nat_lt c.right right_properties) (16, 0)
     (ask (not (some (same_comparison c) cs)) (17, 0)
     (ask (nat_lt (length cs) 64) (18, 0)
     None)))
 
 -- The first no to what a condition asks for, which is nothing where its kind is not known.
 abbrev pub asked_fault : ℕ → ℕ → List Comparison → Option Comparison → Option Refusal
-asked_fault left-properties right-properties cs None = Some (30, 0)
-asked_fault left-properties right-properties cs (Some c) = comparison_fault left-properties right-properties cs c
+asked_fault left_properties right_properties cs None = Some (30, 0)
+asked_fault left_properties right_properties cs (Some c) = comparison_fault left_properties right_properties cs c
 
 -- The first no to one more condition: its kind is asked first.
 abbrev pub draft_fault : ℕ → ℕ → List Comparison → Condition → Option Refusal
-draft_fault left-properties right-properties cs condition = asked_fault left-properties right-properties cs (comparison_of condition)
+draft_fault left_properties right_properties cs condition = asked_fault left_properties right_properties cs (comparison_of condition)
 
 -- The comparisons with one more at the end.
 abbrev pub with_more : List Comparison → Option Comparison → List Comparison

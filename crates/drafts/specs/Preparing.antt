@@ -16,17 +16,17 @@ abbrev pub lists_at : Meaning → ℕ → List (List ℕ)
 lists_at m p = map (λ s. m.values s p) (range m.subjects)
 
 -- A comparison is prepared: its kind, and the lists of both tables at its properties.
-pub record Prepares (left-meaning right-meaning : Meaning) (c : Comparison) (p : Prepared) : Type 0 where
+pub record Prepares (left_meaning right_meaning : Meaning) (c : Comparison) (p : Prepared) : Type 0 where
   pub same_kind : p.kind ≡ c.kind
-  pub left_lists : lists p.left ≡ lists_at left-meaning c.left
-  pub right_lists : lists p.right ≡ lists_at right-meaning c.right
+  pub left_lists : lists p.left ≡ lists_at left_meaning c.left
+  pub right_lists : lists p.right ≡ lists_at right_meaning c.right
 
 -- All comparisons are prepared, each in its place.
 abbrev pub AllPrepared : Meaning → Meaning → List Comparison → List Prepared → Type 0
-AllPrepared left-meaning right-meaning [] [] = Unit {0}
-AllPrepared left-meaning right-meaning [] (p ∷ ps) = ⊥
-AllPrepared left-meaning right-meaning (c ∷ cs) [] = ⊥
-AllPrepared left-meaning right-meaning (c ∷ cs) (p ∷ ps) = Prepares left-meaning right-meaning c p × AllPrepared left-meaning right-meaning cs ps
+AllPrepared left_meaning right_meaning [] [] = Unit {0}
+AllPrepared left_meaning right_meaning [] (p ∷ ps) = ⊥
+AllPrepared left_meaning right_meaning (c ∷ cs) [] = ⊥
+AllPrepared left_meaning right_meaning (c ∷ cs) (p ∷ ps) = Prepares left_meaning right_meaning c p × AllPrepared left_meaning right_meaning cs ps
 
 -- There is a list for left subject s, and one for each of so many right subjects.
 pub record HasLists (s rights : ℕ) (p : Prepared) : Type 0 where

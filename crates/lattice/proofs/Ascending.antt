@@ -112,11 +112,11 @@ kept_ascends test a (suc n) i j h l = go (test a) i j h l (kept_ascends test (a 
     go true (suc i) zero h l more = absurd (omega arith)
     go true (suc i) (suc j) h l more = more i j (omega arith) (omega arith)
 
-getD_passes : (test : ℕ → Bool) (size n : ℕ) → n < length (filter test (range size)) → test (get_or (filter test (range size)) n 0) ≡ true
-getD_passes test size n h = All-get_or (λ y. test y ≡ true) (filter test (range size)) n 0 h (kept_by_passes test (range size))
+get_or_passes : (test : ℕ → Bool) (size n : ℕ) → n < length (filter test (range size)) → test (get_or (filter test (range size)) n 0) ≡ true
+get_or_passes test size n h = All-get_or (λ y. test y ≡ true) (filter test (range size)) n 0 h (kept_by_passes test (range size))
 
-pub getD_within : (test : ℕ → Bool) (size n : ℕ) → n < length (filter test (range size)) → get_or (filter test (range size)) n 0 < size
-getD_within test size n h =
+pub get_or_within : (test : ℕ → Bool) (size n : ℕ) → n < length (filter test (range size)) → get_or (filter test (range size)) n 0 < size
+get_or_within test size n h =
     (All-get_or (λ y. (0 ≤ y) × (y < size)) (filter test (range size)) n 0 h
     (all_kept_by test (λ y. (0 ≤ y) × (y < size)) (range size) (counted_within 0 size 0 size (omega arith) (omega arith)))
     ).1
@@ -124,7 +124,7 @@ getD_within test size n h =
 -- Where 0 does not pass, the last of the first n is below the next.
 pub last_below_next : (test : ℕ → Bool) (size n : ℕ) → test 0 ≡ false → n < length (filter test (range size)) → last_of (filter test (range size)) n < get_or (filter test (range size)) n 0
 last_below_next test size zero z h =
-    let other : get_or (filter test (range size)) 0 0 ≡ 0 → ⊥ = λ e. both_ways (test 0) z (ap test (sym e) ∙ getD_passes test size 0 h) in
+    let other : get_or (filter test (range size)) 0 0 ≡ 0 → ⊥ = λ e. both_ways (test 0) z (ap test (sym e) ∙ get_or_passes test size 0 h) in
     omega arith
 last_below_next test size (suc n) z h = kept_ascends test 0 size n (suc n) (omega arith) h
 
@@ -143,7 +143,7 @@ least_is_next test size n z none h least =
     ⊎_elim (λ l. let s = at_most_last test size n m.0 l h in absurd (omega (arith, least.greater)))
     (λ l.
     let short : n < length (filter test (range size)) = omega (arith, m.1) in
-    let up = least.least (get_or (filter test (range size)) n 0) (getD_within test size n short) (getD_passes test size n short) (last_below_next test size n none short) in
+    let up = least.least (get_or (filter test (range size)) n 0) (get_or_within test size n short) (get_or_passes test size n short) (last_below_next test size n none short) in
     ⊎_elim (λ e. (short, ap (λ (v : ℕ). get_or (filter test (range size)) v 0) e ∙ at))
     (λ e. let s = kept_ascends test 0 size n m.0 (omega arith) m.1 in (short, omega arith)) (cases_eq n m.0))
     (cases_lt m.0 n)
@@ -152,5 +152,5 @@ least_is_next test size n z none h least =
 pub none_is_end : (test : ℕ → Bool) (size n : ℕ) → test 0 ≡ false → n ≤ length (filter test (range size)) → NoneAbove test size (last_of (filter test (range size)) n) → n ≡ length (filter test (range size))
 unfolding NoneAbove
 none_is_end test size n none h f =
-    ⊎_elim (λ l. absurd (f (get_or (filter test (range size)) n 0) (getD_within test size n l) (getD_passes test size n l) (last_below_next test size n none l)))
+    ⊎_elim (λ l. absurd (f (get_or (filter test (range size)) n 0) (get_or_within test size n l) (get_or_passes test size n l) (last_below_next test size n none l)))
     (λ l. omega arith) (cases_lt n (length (filter test (range size))))

@@ -8,7 +8,7 @@ use Rattle.lattice.specs.Closed.{is_closed, next_closed}
 use Rattle.lattice.specs.Least.{least_above, LeastAbove, NoneAbove}
 use Rattle.lattice.specs.Sets.{range, empty}
 use Rattle.lattice.specs.Widening.{including, SameMembers}
-use Rattle.lattice.proofs.Ascending.{kept_ascends, getD_within, last_below_next, least_is_next, none_is_end}
+use Rattle.lattice.proofs.Ascending.{kept_ascends, get_or_within, last_below_next, least_is_next, none_is_end}
 use Rattle.lattice.proofs.Closures.{closed_whole, meet_closed, including_some, widening_members, including_members}
 use Rattle.lattice.proofs.Conditions.{meet_left}
 use Rattle.lattice.proofs.Raising.{next_is_least, none_above}
@@ -86,7 +86,7 @@ candidates_ascend k codes i j h l = kept_ascends (is_candidate k codes) 0 (2 ^ k
 last_below : (k : ℕ) (codes : List ℕ) (n : ℕ) → n ≤ length (candidates k codes) → last_of (candidates k codes) n < 2 ^ k
 unfolding candidates
 last_below k codes zero h = pow_pos k
-last_below k codes (suc n) h = getD_within (is_candidate k codes) (2 ^ k) n (omega arith)
+last_below k codes (suc n) h = get_or_within (is_candidate k codes) (2 ^ k) n (omega arith)
 
 -- The candidate at a place is greater than its place.
 place_below : (k : ℕ) (codes : List ℕ) (n : ℕ) → n ≤ length (candidates k codes) → n ≤ last_of (candidates k codes) n

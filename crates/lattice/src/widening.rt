@@ -1,13 +1,13 @@
 // The widening of a set of conditions over a list of codes.
 ghost use Rattle.std.specs.Prelude.{◌≡◌};
-ghost use Rattle.lattice.specs.Widening.{widening as widening-of, RunningMeetWidens, WideningExtends, WideningGrows, WideningSettles, WideningKeepsCodes, WideningByMembers, WideningByLinks, IncludingByLinks};
+ghost use Rattle.lattice.specs.Widening.{widening as widening_of, RunningMeetWidens, WideningExtends, WideningGrows, WideningSettles, WideningKeepsCodes, WideningByMembers, WideningByLinks, IncludingByLinks};
 
 use crate::width::Width;
 
 // The conditions that all codes have that include `x`, in one pass over the codes.
 // Bits of `x` beyond the width are no conditions and do not count.
 pub fn widen(codes: &[u64], width: Width, x: u64) -> u64
-    ensures { result ≡ widening-of width.conditions codes.now x }
+    ensures { result ≡ widening_of width.conditions codes.now x }
 {
     let mut all = width.whole();
     let asked = x & all;

@@ -15,12 +15,12 @@ all_pass_push p (y ∷ ys) x h e =
     let q = and_parts (p y) (list_all p ys) h in
     and_from (p y) (list_all p (ys ++ x ∷ [])) q.0 (all_pass_push p ys x q.1 e)
 
-pub all_pass_getD : {X : Type 0} (p : X → Bool) (xs : List X) (i : ℕ) (d : X) → list_all p xs ≡ true → i < length xs → p (get_or xs i d) ≡ true
-all_pass_getD p [] i d h l = absurd (omega arith)
-all_pass_getD p (y ∷ ys) i d h l =
+pub all_pass_get_or : {X : Type 0} (p : X → Bool) (xs : List X) (i : ℕ) (d : X) → list_all p xs ≡ true → i < length xs → p (get_or xs i d) ≡ true
+all_pass_get_or p [] i d h l = absurd (omega arith)
+all_pass_get_or p (y ∷ ys) i d h l =
     let q = and_parts (p y) (list_all p ys) h in
     let P : ℕ → Type 0 = λ k. k < length (y ∷ ys) → p (get_or (y ∷ ys) k d) ≡ true in
-    elim i as P [ zero ↦ (λ _. q.0) | suc k ↦ (λ m. all_pass_getD p ys k d q.1 (omega arith)) ] l
+    elim i as P [ zero ↦ (λ _. q.0) | suc k ↦ (λ m. all_pass_get_or p ys k d q.1 (omega arith)) ] l
 
 -- a list without v begins with another value, and its rest is without v too
 pub without_parts : (x : ℕ) (xs : List ℕ) (v : ℕ) → contains (x ∷ xs) v ≡ false → (x ≡ v → ⊥) × (contains xs v ≡ false)
@@ -55,7 +55,7 @@ climbs_push xs n h a k l =
     (λ (m : k + 1 < length xs). let next = get_or_append_left xs (n ∷ []) 0 (k + 1) m in omega (arith, h k m))
     (λ (m : length xs ≤ k + 1).
     let next = get_or_push xs n 0 (k + 1) (omega arith) in
-    omega (arith, ltb-true (get_or xs k 0) n (all_pass_getD (λ x. ltb x n) xs k 0 a (omega arith))))
+    omega (arith, ltb-true (get_or xs k 0) n (all_pass_get_or (λ x. ltb x n) xs k 0 a (omega arith))))
     (cases_lt (k + 1) (length xs))
 
 -- what is kept by a list of foldings is kept with the folding of a into b behind it

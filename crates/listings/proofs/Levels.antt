@@ -9,12 +9,12 @@ use Rattle.std.proofs.lemmas.Bool.{both_ways, cond-true, cond-false, le-leb, lt-
 use Rattle.contexts.specs.Pairs.{coded_pairs}
 use Rattle.contexts.specs.Relation.{Relation, Sound}
 use Rattle.contexts.specs.declared.coded_pair.CodedPair.{CodedPair}
-use Rattle.lattice.specs.Candidates as of-codes
+use Rattle.lattice.specs.Candidates as of_codes
 use Rattle.lattice.specs.Candidates.{last_of, Steps}
 use Rattle.lattice.specs.Closed.{next_closed}
 use Rattle.lattice.specs.Sets.{empty}
 use Rattle.lattice.specs.Widening.{including}
-use Rattle.lattice.proofs.Ascending.{getD_within, last_below_next}
+use Rattle.lattice.proofs.Ascending.{get_or_within, last_below_next}
 use Rattle.lattice.proofs.Raising.{next_is_least}
 use Rattle.lattice.proofs.Steps as of_steps
 use Rattle.records.specs.Writing.{has_space, put_at}
@@ -88,11 +88,11 @@ module _ {C : Type 0} (l : Listing C) where
   known_codes : same_members (codes_of (coded_pairs (relation_of l))) (vec_items l.distinct) ≡ true
   known_codes = ap (λ (qs : List CodedPair). same_members (codes_of qs) (vec_items l.distinct)) (sym l.coded) ∙ l.known
 
-  candidates_known : candidates (relation_of l) ≡ of-codes.candidates l.width.conditions (vec_items l.distinct)
+  candidates_known : candidates (relation_of l) ≡ of_codes.candidates l.width.conditions (vec_items l.distinct)
   unfolding copied
   candidates_known = candidates_coded (relation_of l) sound (vec_items l.distinct) known_codes
 
-  count_known : candidate_count (relation_of l) ≡ length (of-codes.candidates l.width.conditions (vec_items l.distinct))
+  count_known : candidate_count (relation_of l) ≡ length (of_codes.candidates l.width.conditions (vec_items l.distinct))
   unfolding candidate_count
   count_known = ap length candidates_known
 
@@ -104,7 +104,7 @@ module _ {C : Type 0} (l : Listing C) where
   steps : Steps l.width.conditions (vec_items l.distinct) l.handed
   steps = of_steps.steps l.width.conditions (vec_items l.distinct) l.handed (omega (arith, l.reached.0, count_known))
 
-  from_last : l.last ≡ last_of (of-codes.candidates l.width.conditions (vec_items l.distinct)) l.handed
+  from_last : l.last ≡ last_of (of_codes.candidates l.width.conditions (vec_items l.distinct)) l.handed
   from_last = l.reached.1 ∙ ap (λ (xs : List ℕ). last_of xs l.handed) candidates_known
 
   -- the code that the step from the last one leads to
@@ -113,7 +113,7 @@ module _ {C : Type 0} (l : Listing C) where
       let least = next_is_least l.width.conditions (vec_items l.distinct) l.last z (sym e) in
       (omega (arith, least.greater), least.within)
 
-  step_from : {o : Option ℕ} → o ≡ next_closed l.width.conditions (vec_items l.distinct) l.last → next_closed l.width.conditions (vec_items l.distinct) (last_of (of-codes.candidates l.width.conditions (vec_items l.distinct)) l.handed) ≡ o
+  step_from : {o : Option ℕ} → o ≡ next_closed l.width.conditions (vec_items l.distinct) l.last → next_closed l.width.conditions (vec_items l.distinct) (last_of (of_codes.candidates l.width.conditions (vec_items l.distinct)) l.handed) ≡ o
   step_from e = ap (next_closed l.width.conditions (vec_items l.distinct)) (sym from_last) ∙ sym e
 
   some_include : (z : ℕ) → 0 < z → z < 2 ^ l.width.conditions → empty (including l.width.conditions z (vec_items l.distinct)) ≡ empty (links (relation_of l) z)
@@ -190,7 +190,7 @@ module _ {C : Type 0} (l : Listing C) where
       by (suc n) m h e =
           let size = 2 ^ l.width.conditions in
           let low = last_below_next (is_candidate (relation_of l)) size n refl h in
-          let high = getD_within (is_candidate (relation_of l)) size n h in
+          let high = get_or_within (is_candidate (relation_of l)) size n h in
           (omega arith, omega arith)
 
   -- as many links are told of a code as it has

@@ -49,12 +49,12 @@ abbrev pub Marks : (CodedPair → ℕ) → List CodedPair → List Bool → Type
 Marks side ps marks = (k : ℕ) → k < 2048 → get_or marks k false ≡ is_marked side ps k
 
 pub marks_none : (side : CodedPair → ℕ) (marks : List Bool) → marks ≡ replicate 2048 false → Marks side [] marks
-marks_none side marks e k h = ap (λ (ms : List Bool). get_or ms k false) e ∙ get_d_replicate 2048 k
+marks_none side marks e k h = ap (λ (ms : List Bool). get_or ms k false) e ∙ get_or_replicate 2048 k
   where
-    get_d_replicate : (n k : ℕ) → get_or (replicate n false) k false ≡ false
-    get_d_replicate zero k = refl
-    get_d_replicate (suc n) zero = refl
-    get_d_replicate (suc n) (suc k) = get_d_replicate n k
+    get_or_replicate : (n k : ℕ) → get_or (replicate n false) k false ≡ false
+    get_or_replicate zero k = refl
+    get_or_replicate (suc n) zero = refl
+    get_or_replicate (suc n) (suc k) = get_or_replicate n k
 
 pub marks_more : (side : CodedPair → ℕ) (ps : List CodedPair) (p : CodedPair) (marks : List Bool) → side p < length marks → Marks side ps marks → Marks side (ps ++ p ∷ []) (set marks (side p) true)
 marks_more side ps p marks inside before k h =

@@ -7,10 +7,10 @@ use Rattle.std.proofs.lemmas.Bool.{and_parts, eqb-true, false≢true}
 use Rattle.contexts.specs.Pairs.{pairs, pair_code, has_code, coded, coded_pairs}
 use Rattle.contexts.specs.Relation.{Relation, Sound}
 use Rattle.contexts.specs.declared.coded_pair.CodedPair.{CodedPair}
-use Rattle.lattice.specs.Candidates as of-codes
+use Rattle.lattice.specs.Candidates as of_codes
 use Rattle.lattice.specs.Closed.{is_closed}
 use Rattle.lattice.specs.Sets.{range, every, empty, has, code_of}
-use Rattle.lattice.specs.Widening as over-codes
+use Rattle.lattice.specs.Widening as over_codes
 use Rattle.lattice.specs.Widening.{including, SameMembers}
 use Rattle.lattice.proofs.Closures.{widening_links, including_links, including_members}
 use Rattle.lattice.proofs.Filters.{kept_alike}
@@ -54,11 +54,11 @@ including_own c sound x low high =
     ∙ including_links c.conditions (pairs c) (has_code c) (pair_code c) x
     ∙ ap (λ (ps : List (ℕ × ℕ)). empty ps) (sym (links_kept c sound x low high))
 
-widening_own : (c : Relation) → Sound c → (x : ℕ) → 0 < x → x < 2 ^ c.conditions → over-codes.widening c.conditions (codes_of (coded_pairs c)) x ≡ widening c x
+widening_own : (c : Relation) → Sound c → (x : ℕ) → 0 < x → x < 2 ^ c.conditions → over_codes.widening c.conditions (codes_of (coded_pairs c)) x ≡ widening c x
 unfolding widening
 widening_own c sound x low high =
     let k = c.conditions in
-    ap (λ (ds : List ℕ). over-codes.widening k ds x) (codes_read c)
+    ap (λ (ds : List ℕ). over_codes.widening k ds x) (codes_read c)
     ∙ widening_links k (pairs c) (has_code c) (pair_code c) x
     ∙ ap (λ (ps : List (ℕ × ℕ)). code_of k (λ i. every (λ p. has k (pair_code c p) i) ps)) (sym (links_kept c sound x low high))
 
@@ -67,19 +67,19 @@ including_coded c sound codes same x low high =
     sym (including_members c.conditions (codes_of (coded_pairs c)) codes (members_same (codes_of (coded_pairs c)) codes same) x)
     ∙ including_own c sound x low high
 
-candidate_own : (c : Relation) → Sound c → (x : ℕ) → x < 2 ^ c.conditions → is_candidate c x ≡ of-codes.is_candidate c.conditions (codes_of (coded_pairs c)) x
-unfolding is_candidate of-codes.is_candidate is_closed
+candidate_own : (c : Relation) → Sound c → (x : ℕ) → x < 2 ^ c.conditions → is_candidate c x ≡ of_codes.is_candidate c.conditions (codes_of (coded_pairs c)) x
+unfolding is_candidate of_codes.is_candidate is_closed
 candidate_own c sound zero high = refl
 candidate_own c sound (suc n) high =
     let x = suc n in
     ap₂ (λ (w : ℕ) (none : Bool). not (eqb x 0) && eqb w x && not none) (sym (widening_own c sound x (omega arith) high))
     (sym (including_own c sound x (omega arith) high))
 
-pub candidates_coded : (c : Relation) → Sound c → (codes : List ℕ) → same_members (codes_of (coded_pairs c)) codes ≡ true → candidates c ≡ of-codes.candidates c.conditions codes
-unfolding candidates of-codes.candidates
+pub candidates_coded : (c : Relation) → Sound c → (codes : List ℕ) → same_members (codes_of (coded_pairs c)) codes ≡ true → candidates c ≡ of_codes.candidates c.conditions codes
+unfolding candidates of_codes.candidates
 candidates_coded c sound codes same =
     let k = c.conditions in
     let own = codes_of (coded_pairs c) in
-    kept_alike (is_candidate c) (of-codes.is_candidate k own) (range (2 ^ k))
+    kept_alike (is_candidate c) (of_codes.is_candidate k own) (range (2 ^ k))
     (λ x m. candidate_own c sound x (range_below (2 ^ k) x m))
     ∙ candidates_members k own codes (members_same own codes same)

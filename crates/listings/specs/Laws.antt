@@ -2,7 +2,7 @@
 use Rattle.std.specs.Prelude.{◌≡◌, ℕ, ◌+◌, ◌*◌, ◌^◌, ◌<◌, ◌≤◌, true, List, [], ◌++◌, length, take, drop, ◌≢◌, bit_and, slice_index}
 use Rattle.std.specs.List.{ContainsAt as Has, AllByRecursion}
 use Rattle.contexts.specs.Relation.{Relation, Sound}
-use Rattle.lattice.specs.Candidates as of-codes
+use Rattle.lattice.specs.Candidates as of_codes
 use Rattle.lattice.specs.Sets.{has, whole, includes}
 use Rattle.lattice.specs.Widening.{SameMembers}
 use Rattle.records.specs.Kinds.{candidate_fields}
@@ -76,7 +76,7 @@ MeetsAreCandidates = (c : Relation) (x y : ℕ) → is_candidate c x ≡ true �
 
 -- The candidates of a relation are those of any list of the codes of its present pairs, in any order and number.
 abbrev pub CandidatesByCodes : Type 0
-CandidatesByCodes = (c : Relation) (codes : List ℕ) → SameMembers (present_codes c) codes → candidates c ≡ of-codes.candidates c.conditions codes
+CandidatesByCodes = (c : Relation) (codes : List ℕ) → SameMembers (present_codes c) codes → candidates c ≡ of_codes.candidates c.conditions codes
 
 -- Over a sound relation every field of a candidate fits four bytes.
 abbrev pub FieldsFit : Type 0

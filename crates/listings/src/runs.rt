@@ -1,9 +1,9 @@
 // Whole runs: one listing over a context, any list of calls, and every answer with its buffer.
 ghost use Rattle.std.specs.Prelude.{◌≡◌, ◌+◌, ◌≤◌, min, [], map, vec_len, vec_capacity, MatchResult};
 ghost use Rattle.listings.specs.Calls.{with_space};
-ghost use Rattle.listings.specs.Replies.{candidate_count, reply as reply-by, replies as replies-by};
+ghost use Rattle.listings.specs.Replies.{candidate_count, reply as reply_by, replies as replies_by};
 ghost use Rattle.listings.specs.Runs.{Ran};
-ghost use Rattle.listings.specs.View.{relation_of, level as level-of, ask_of, reply_of};
+ghost use Rattle.listings.specs.View.{relation_of, level as level_of, ask_of, reply_of};
 
 use crate::call::{Answer, Call, Taken};
 use crate::listing::{Listing, Unstarted, start};
@@ -27,8 +27,8 @@ impl<C> Listing<C> {
     pub fn answer(&mut self, call: Call) -> Answer
         ensures same { self.new.context ≡ self.old.context }
         ensures kept { relation_of self.new ≡ relation_of self.old }
-        ensures level { level-of self.new ≡ min (level-of self.old + with_space (ask_of call)) (candidate_count (relation_of self.old) + 1) }
-        ensures reply { reply_of result ≡ reply-by (relation_of self.old) (level-of self.old) (ask_of call) }
+        ensures level { level_of self.new ≡ min (level_of self.old + with_space (ask_of call)) (candidate_count (relation_of self.old) + 1) }
+        ensures reply { reply_of result ≡ reply_by (relation_of self.old) (level_of self.old) (ask_of call) }
     {
         match call {
             Call::Take { at, mut buffer } => match self.take(at, buffer.as_mut_slice()) {
@@ -55,7 +55,7 @@ impl<C> Listing<C> {
         requires space { vec_len answers + vec_len calls ≤ vec_capacity answers }
         requires none { answers.items ≡ [] }
         ensures same { self.new.context ≡ self.old.context }
-        ensures replies { map reply_of result.items ≡ replies-by (relation_of self.old) (level-of self.old) (map ask_of calls.items) }
+        ensures replies { map reply_of result.items ≡ replies_by (relation_of self.old) (level_of self.old) (map ask_of calls.items) }
     {
         for call in calls {
             answers.push_reserved(self.answer(call));

@@ -22,14 +22,14 @@ condition_at xs i = condition_of (fields_in (record_at 12 i xs))
 
 -- The first no to adding condition number i to the comparisons so far, told at that record.
 abbrev pub at_record_fault : ℕ → ℕ → ℕ → List Comparison → Condition → Option Refusal
-at_record_fault left-properties right-properties i cs condition =
-    option_map (λ (e : Refusal). (e.0, i)) (draft_fault left-properties right-properties cs condition)
+at_record_fault left_properties right_properties i cs condition =
+    option_map (λ (e : Refusal). (e.0, i)) (draft_fault left_properties right_properties cs condition)
 
 -- The first no to adding conditions, numbered from i on, to the comparisons so far.
 abbrev pub conditions_fault : ℕ → ℕ → ℕ → List Comparison → List Condition → Option Refusal
-conditions_fault left-properties right-properties i cs [] = None
-conditions_fault left-properties right-properties i cs (b ∷ bs) =
-    first_no (at_record_fault left-properties right-properties i cs b) (conditions_fault left-properties right-properties (i + 1) (with_more cs (comparison_of b)) bs)
+conditions_fault left_properties right_properties i cs [] = None
+conditions_fault left_properties right_properties i cs (b ∷ bs) =
+    first_no (at_record_fault left_properties right_properties i cs b) (conditions_fault left_properties right_properties (i + 1) (with_more cs (comparison_of b)) bs)
 
 -- The comparisons so far with those of conditions behind them.
 abbrev pub drafted : List Comparison → List Condition → List Comparison
@@ -38,8 +38,8 @@ drafted cs (b ∷ bs) = drafted (with_more cs (comparison_of b)) bs
 
 -- The first no to a file of conditions over tables of so many properties: to its length, and then condition by condition.
 abbrev pub draft_file_fault : ℕ → ℕ → List ℕ → Option Refusal
-draft_file_fault left-properties right-properties xs =
-    first_no (length_fault 12 xs) (conditions_fault left-properties right-properties 0 [] (bodies condition_of 12 xs))
+draft_file_fault left_properties right_properties xs =
+    first_no (length_fault 12 xs) (conditions_fault left_properties right_properties 0 [] (bodies condition_of 12 xs))
 
 -- What opening a draft gives: the draft of all conditions over the two tables where there is no no, else the fault; or no memory, which is never said of a file whose length is refused.
 abbrev pub DraftOpened : RegisterFile → RegisterFile → List ℕ → Result (Draft RegisterFile RegisterFile) OpenError → Type 0

@@ -1,7 +1,7 @@
 // The lines of a listing's candidates, one take after another.
 ghost use Rattle.std.specs.Prelude.{◌≡◌, ◌+◌, min};
 ghost use Rattle.listings.specs.Replies.{candidate_count};
-ghost use Rattle.listings.specs.View.{relation_of, level as level-of};
+ghost use Rattle.listings.specs.View.{relation_of, level as level_of};
 ghost use Rattle.report.specs.Candidates.{Told};
 
 use crate::lines::candidate_line;
@@ -16,8 +16,8 @@ const SIZE: usize = 32;
 pub fn next_line<C>(heap: Global, listing: &mut Listing<C>) -> Result<Option<String>, AllocError>
     ensures same { listing.new.context ≡ listing.old.context }
     ensures kept { relation_of listing.new ≡ relation_of listing.old }
-    ensures level { level-of listing.new ≡ min (level-of listing.old + 1) (candidate_count (relation_of listing.old) + 1) }
-    ensures told { Told (relation_of listing.old) (level-of listing.old) result }
+    ensures level { level_of listing.new ≡ min (level_of listing.old + 1) (candidate_count (relation_of listing.old) + 1) }
+    ensures told { Told (relation_of listing.old) (level_of listing.old) result }
 {
     let mut record = [0; SIZE];
     match listing.take(0, &mut record) {

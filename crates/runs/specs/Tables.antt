@@ -12,10 +12,10 @@ use Rattle.listings.specs.declared.call.Call.{Call}
 use Rattle.tables.specs.Meaning.{Meaning}
 
 -- The answers to the calls over two tables under some comparisons: what every run over the relation of the tables owes, and the same as any run over tables that are alike at the properties which the comparisons name.
-pub record RanOver (left-meaning right-meaning : Meaning) (cs : List Comparison) (calls : List Call) (answers : List Answer) : Type 0 where
-  pub ran : Ran (live left-meaning right-meaning cs) calls answers
+pub record RanOver (left_meaning right_meaning : Meaning) (cs : List Comparison) (calls : List Call) (answers : List Answer) : Type 0 where
+  pub ran : Ran (live left_meaning right_meaning cs) calls answers
   pub alike_tables_answer_alike :
-      (l r : Meaning) → AlikeAt (lefts_named cs) left-meaning l → AlikeAt (rights_named cs) right-meaning r → (rs : List Reply) → Kept (live l r cs) (map ask_of calls) rs → map reply_of answers ≡ rs
+      (l r : Meaning) → AlikeAt (lefts_named cs) left_meaning l → AlikeAt (rights_named cs) right_meaning r → (rs : List Reply) → Kept (live l r cs) (map ask_of calls) rs → map reply_of answers ≡ rs
 
 -- Two runs answer alike where the comparisons are the same, in the same order, and the tables are alike, left with left and right with right, at the properties which they name.
 abbrev pub AnswerAlike : Meaning → Meaning → Meaning → Meaning → List Comparison → List Comparison → List Answer → List Answer → Type 0

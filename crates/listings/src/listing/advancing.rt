@@ -4,7 +4,7 @@ ghost use Rattle.lattice.specs.Closed.{next_closed};
 ghost use Rattle.listings.specs.Candidates.{candidates};
 ghost use Rattle.listings.specs.Counts.{candidate_body};
 ghost use Rattle.listings.specs.Replies.{candidate_count};
-ghost use Rattle.listings.specs.View.{relation_of, level as level-of};
+ghost use Rattle.listings.specs.View.{relation_of, level as level_of};
 
 use super::Listing;
 use super::counting::{count_links, count_set};
@@ -41,8 +41,8 @@ impl<C> Listing<C> {
     pub(super) fn advance(&mut self) -> Option<Candidate>
         ensures same { self.new.context ≡ self.old.context }
         ensures kept { relation_of self.new ≡ relation_of self.old }
-        ensures level { level-of self.new ≡ min (level-of self.old + 1) (candidate_count (relation_of self.old) + 1) }
-        ensures found { MatchOption result (candidate_count (relation_of self.old) ≤ level-of self.old) (λ x. (level-of self.old < candidate_count (relation_of self.old)) × (x ≡ candidate_body (relation_of self.old) (slice_index (candidates (relation_of self.old)) (level-of self.old)))) }
+        ensures level { level_of self.new ≡ min (level_of self.old + 1) (candidate_count (relation_of self.old) + 1) }
+        ensures found { MatchOption result (candidate_count (relation_of self.old) ≤ level_of self.old) (λ x. (level_of self.old < candidate_count (relation_of self.old)) × (x ≡ candidate_body (relation_of self.old) (slice_index (candidates (relation_of self.old)) (level_of self.old)))) }
     {
         if self.ended {
             return None;

@@ -1,8 +1,8 @@
 // The calls on a listing. None of them asks its context anything, and none allocates.
 ghost use Rattle.std.specs.Prelude.{◌≡◌, ◌+◌, min};
 ghost use Rattle.listings.specs.Calls.{take_at, page_from, tally_now, total_now, with_space};
-ghost use Rattle.listings.specs.Replies.{candidate_count, reply as reply-by};
-ghost use Rattle.listings.specs.View.{relation_of, level as level-of, taken_of, paged_of, tally_of, total_of};
+ghost use Rattle.listings.specs.Replies.{candidate_count, reply as reply_by};
+ghost use Rattle.listings.specs.View.{relation_of, level as level_of, taken_of, paged_of, tally_of, total_of};
 
 use super::Listing;
 use super::counting::count_links;
@@ -16,8 +16,8 @@ impl<C> Listing<C> {
     pub fn take(&mut self, at: usize, out: &mut [u8]) -> Result<Taken, TakeFault>
         ensures same { self.new.context ≡ self.old.context }
         ensures kept { relation_of self.new ≡ relation_of self.old }
-        ensures level { level-of self.new ≡ min (level-of self.old + with_space (take_at at out.old)) (candidate_count (relation_of self.old) + 1) }
-        ensures reply { taken_of result out.new ≡ reply-by (relation_of self.old) (level-of self.old) (take_at at out.old) }
+        ensures level { level_of self.new ≡ min (level_of self.old + with_space (take_at at out.old)) (candidate_count (relation_of self.old) + 1) }
+        ensures reply { taken_of result out.new ≡ reply_by (relation_of self.old) (level_of self.old) (take_at at out.old) }
     {
         if at > out.len() || out.len() - at < Candidates::stride() {
             return Err(TakeFault::NoSpace);
@@ -33,7 +33,7 @@ impl<C> Listing<C> {
 
     // Writes links of the candidate handed out last, from link number `from` on, as many as fit; answers how many.
     pub fn page(&self, from: usize, out: &mut [u8]) -> Result<usize, PageFault>
-        ensures { paged_of result out.new ≡ reply-by (relation_of self.now) (level-of self.now) (page_from from out.old) }
+        ensures { paged_of result out.new ≡ reply_by (relation_of self.now) (level_of self.now) (page_from from out.old) }
     {
         if self.handed == 0 {
             return Err(PageFault::NoCandidate);
@@ -53,7 +53,7 @@ impl<C> Listing<C> {
 
     // How far the listing has come.
     pub fn tally(&self) -> Tally
-        ensures { tally_of result ≡ reply-by (relation_of self.now) (level-of self.now) tally_now }
+        ensures { tally_of result ≡ reply_by (relation_of self.now) (level_of self.now) tally_now }
     {
         Tally {
             handed: self.handed,
@@ -64,7 +64,7 @@ impl<C> Listing<C> {
 
     // How many candidates there are, once a take has said "ended".
     pub fn total(&self) -> Result<u64, TotalFault>
-        ensures { total_of result ≡ reply-by (relation_of self.now) (level-of self.now) total_now }
+        ensures { total_of result ≡ reply_by (relation_of self.now) (level_of self.now) total_now }
     {
         if self.ended {
             Ok(self.handed)
