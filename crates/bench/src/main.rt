@@ -7,7 +7,7 @@ use crate::registers::{Random, register};
 use anyhow::anyhow;
 use drafts::{Draft, Undrafted};
 use listings::{Listing, Taken, Unstarted, start};
-use records::{Candidates, Condition, read};
+use records::{Candidate, Condition, Kind, read};
 use std::alloc::Global;
 use tables::RegisterFile;
 
@@ -17,7 +17,7 @@ const START: u64 = 88172645463325252;
 const MOST: u32 = 100000;
 
 // What was listed: how many candidates, the sum of their links and linked subjects, and a sum over their codes.
-#[derive(Clone, Copy)]
+#[derive(Clone, Copy, Default)]
 struct Listed {
     candidates: u64,
     links: u64,
@@ -27,7 +27,7 @@ struct Listed {
 
 // One candidate more.
 fn count(seen: Listed, record: &[u8]) -> Listed {
-    match read::<Candidates>(record, 0) {
+    match read::<Candidate>(record, 0) {
         Ok(candidate) => Listed {
             candidates: seen.candidates.saturating_add(1),
             links: seen.links.saturating_add(u64::from(candidate.links)),
@@ -42,18 +42,12 @@ fn count(seen: Listed, record: &[u8]) -> Listed {
 }
 
 fn take_all<C>(listing: &mut Listing<C>) -> Listed {
-    let mut seen = Listed {
-        candidates: 0,
-        links: 0,
-        linked: 0,
-        codes: 0,
-    };
+    let mut seen = Listed::default();
     for _ in 0..MOST {
         let mut record = [0; 32];
         match listing.take(0, &mut record) {
             Ok(Taken::Handed) => seen = count(seen, &record),
-            Ok(Taken::Ended) => return seen,
-            Err(_) => return seen,
+            Ok(Taken::Ended) | Err(_) => return seen,
         }
     }
     seen
@@ -68,8 +62,9 @@ fn add_all(
 ) -> usize {
     for left in 0..lefts {
         for right in 0..rights {
-            for kind in 0..2 {
+            for kind in [Kind::Equal, Kind::Share] {
                 if !like || left == right {
+                    let kind = u32::from(kind);
                     let _ = draft.add(Condition { kind, left, right });
                 }
             }
@@ -79,6 +74,7 @@ fn add_all(
 }
 
 fn list(heap: Global, draft: Draft<RegisterFile, RegisterFile>) -> anyhow::Result<Listed> {
+    // Both ways let the tables go by name, so `?` does not do here.
     match start(heap, draft.start()) {
         Ok(mut listing) => {
             let seen = take_all(&mut listing);
@@ -99,13 +95,10 @@ fn bench(rt: &HostRuntime, range: u64, lefts: u32, rights: u32, like: bool) -> a
     let mut random = Random::new(START);
     let left = register(heap, &mut random, range)?;
     let right = register(heap, &mut random, range)?;
-    let mut draft = match Draft::new(heap, left, right) {
-        Ok(draft) => draft,
-        Err(undrafted) => {
-            let Undrafted { left: _, right: _ } = undrafted;
-            return Err(anyhow!("no memory for a draft"));
-        }
-    };
+    let mut draft = Draft::new(heap, left, right).map_err(|undrafted| {
+        let Undrafted { left: _, right: _ } = undrafted;
+        anyhow!("no memory for a draft")
+    })?;
     let conditions = add_all(&mut draft, lefts, rights, like);
     let seen = list(heap, draft)?;
     let Listed {

@@ -2,14 +2,15 @@
 use crate::facts::MOST;
 use crate::random::Random;
 use crate::trouble::Trouble;
-use records::Condition;
+use drafts::DraftFault;
+use records::{Condition, Kind};
 use std::alloc::Global;
 
-// A condition, and the number of the refusal that it is due, if any.
+// A condition, and the answer that it is due.
 #[derive(Clone, Copy)]
 pub struct Asked {
     pub condition: Condition,
-    pub refusal: Option<u32>,
+    pub due: Result<(), DraftFault>,
 }
 
 // What is asked for in turn, and what of it is in the draft then.
@@ -19,23 +20,26 @@ pub struct Conditions {
     pub accepted: Vec<Condition>,
 }
 
-// The refusal that a condition is due.
-fn refusal(condition: Condition, lefts: usize, rights: usize, known: &[Condition]) -> Option<u32> {
-    if condition.kind > 1 {
-        return Some(30);
+// The answer that a condition is due.
+fn due(
+    condition: Condition,
+    lefts: usize,
+    rights: usize,
+    known: &[Condition],
+) -> Result<(), DraftFault> {
+    if Kind::try_from(condition.kind).is_err() {
+        return Err(DraftFault::UnknownKind);
     }
     if condition.left as usize >= lefts {
-        return Some(15);
+        return Err(DraftFault::UnknownLeft);
     }
     if condition.right as usize >= rights {
-        return Some(16);
+        return Err(DraftFault::UnknownRight);
     }
-    for other in known {
-        if *other == condition {
-            return Some(17);
-        }
+    if known.contains(&condition) {
+        return Err(DraftFault::Repeated);
     }
-    None
+    Ok(())
 }
 
 // A property of a table that has `count`, or now and then any.
@@ -76,11 +80,11 @@ pub fn ask(
             break;
         }
         let condition = condition(random, lefts, rights);
-        let refusal = refusal(condition, lefts, rights, accepted.as_slice());
-        if refusal.is_none() {
+        let due = due(condition, lefts, rights, accepted.as_slice());
+        if due.is_ok() {
             accepted.push(condition)?;
         }
-        asked.push(Asked { condition, refusal })?;
+        asked.push(Asked { condition, due })?;
     }
     Ok(Conditions { asked, accepted })
 }

@@ -16,19 +16,13 @@ pub struct Found {
 
 // Whether all conditions of the set hold for the pair.
 fn is_linked(pair: &Pair, k: usize, x: u64) -> bool {
-    for i in 0..k {
-        if is_member(x, k, i) && !pair.has(i) {
-            return false;
-        }
-    }
-    true
+    (0..k).all(|i| !is_member(x, k, i) || pair.has(i))
 }
 
 // The links of the set, in the order of the pairs.
 fn links(heap: Global, facts: &Facts, x: u64) -> Result<Vec<Pair>, Trouble> {
     let mut links = Vec::new(heap);
-    let pairs = facts.pairs.as_slice();
-    for pair in pairs {
+    for pair in facts.pairs.iter() {
         if is_linked(pair, facts.conditions, x) {
             links.push(*pair)?;
         }
@@ -37,63 +31,23 @@ fn links(heap: Global, facts: &Facts, x: u64) -> Result<Vec<Pair>, Trouble> {
 }
 
 fn holds_for_all(links: &[Pair], i: usize) -> bool {
-    for link in links {
-        if !link.has(i) {
-            return false;
-        }
-    }
-    true
+    links.iter().all(|link| link.has(i))
 }
 
 // Every condition that holds for all links: the whole draft where there are none.
 fn widening(links: &[Pair], k: usize) -> u64 {
-    let mut wide = 0;
-    for i in 0..k {
-        if holds_for_all(links, i) {
-            wide |= weight(k, i);
-        }
-    }
-    wide
+    (0..k)
+        .filter(|i| holds_for_all(links, *i))
+        .fold(0, |wide, i| wide | weight(k, i))
 }
 
-fn has_left(links: &[Pair], s: usize) -> bool {
-    for link in links {
-        if link.left == s {
-            return true;
-        }
-    }
-    false
-}
-
-fn has_right(links: &[Pair], t: usize) -> bool {
-    for link in links {
-        if link.right == t {
-            return true;
-        }
-    }
-    false
-}
-
-// How many left subjects are in a link.
-fn count_lefts(links: &[Pair], lefts: usize) -> usize {
-    let mut count: usize = 0;
-    for s in 0..lefts {
-        if has_left(links, s) {
-            count = count.saturating_add(1);
-        }
-    }
-    count
-}
-
-// How many right subjects are in a link.
-fn count_rights(links: &[Pair], rights: usize) -> usize {
-    let mut count: usize = 0;
-    for t in 0..rights {
-        if has_right(links, t) {
-            count = count.saturating_add(1);
-        }
-    }
-    count
+// How many subjects of a side are in a link.
+fn count_linked<F: Fn(&Pair) -> usize>(links: &[Pair], subjects: usize, side: F) -> usize
+    requires { F.IsAlwaysCallable side }
+{
+    (0..subjects)
+        .filter(|s| links.iter().any(|link| side(link) == *s))
+        .count()
 }
 
 // What there is to tell of the set, if it is a candidate.
@@ -103,8 +57,8 @@ fn candidate(heap: Global, facts: &Facts, x: u64) -> Result<Option<Found>, Troub
     if x == 0 || tied.is_empty() || widening(tied, facts.conditions) != x {
         return Ok(None);
     }
-    let left_linked = count_lefts(tied, facts.lefts);
-    let right_linked = count_rights(tied, facts.rights);
+    let left_linked = count_linked(tied, facts.lefts, |link| link.left);
+    let right_linked = count_linked(tied, facts.rights, |link| link.right);
     Ok(Some(Found {
         code: x,
         links,
@@ -128,11 +82,8 @@ pub fn candidates(heap: Global, facts: &Facts) -> Result<Vec<Found>, Trouble> {
 
 // Whether some pair has exactly the conditions of the set.
 pub fn is_of_one_pair(facts: &Facts, x: u64) -> bool {
-    let pairs = facts.pairs.as_slice();
-    for pair in pairs {
-        if widening(&[*pair], facts.conditions) == x {
-            return true;
-        }
-    }
-    false
+    facts
+        .pairs
+        .iter()
+        .any(|pair| widening(&[*pair], facts.conditions) == x)
 }

@@ -1,7 +1,7 @@
 // What the enumeration asks the tables for: present pairs, and which conditions hold for each.
 use crate::list::{List, equal, share};
 use crate::trouble::Trouble;
-use records::Condition;
+use records::{Condition, Kind};
 use std::alloc::Global;
 use tables::Table;
 
@@ -34,7 +34,7 @@ pub struct Facts {
     pub pairs: Vec<Pair>,
 }
 
-// Equal or share, by the kind.
+// Equal or share, by the kind; only known kinds are accepted.
 fn does_hold<L: Table, R: Table>(
     condition: Condition,
     left: &L,
@@ -44,60 +44,54 @@ fn does_hold<L: Table, R: Table>(
 ) -> bool {
     let left = List::new(left, s, condition.left as usize);
     let right = List::new(right, t, condition.right as usize);
-    if condition.kind == 0 {
-        equal(&left, &right)
-    } else {
-        share(&left, &right)
+    match Kind::try_from(condition.kind) {
+        Ok(Kind::Equal) => equal(&left, &right),
+        Ok(Kind::Share) => share(&left, &right),
+        Err(_) => false,
     }
 }
 
-// Decides every condition for subject `s` of `left` and subject `t` of `right`.
-fn judge<L: Table, R: Table>(
-    left: &L,
-    right: &R,
-    conditions: &[Condition],
-    s: usize,
-    t: usize,
-) -> Pair {
-    let mut holds = [false; MOST];
-    for i in 0..MOST {
-        if i < conditions.len() {
-            holds[i] = does_hold(conditions[i], left, right, s, t);
+// Two tables, and the conditions to decide between them.
+#[derive(Drop)]
+struct Sides<'a, L, R> {
+    left: &'a L,
+    right: &'a R,
+    conditions: &'a [Condition],
+}
+
+impl<'a, L: Table, R: Table> Sides<'a, L, R> {
+    // Decides every condition for left subject `s` and right subject `t`.
+    fn judge(&self, s: usize, t: usize) -> Pair {
+        let mut holds = [false; MOST];
+        for (holds, condition) in holds.iter_mut().zip(self.conditions) {
+            *holds = does_hold(*condition, self.left, self.right, s, t);
+        }
+        Pair {
+            left: s,
+            right: t,
+            holds,
         }
     }
-    Pair {
-        left: s,
-        right: t,
-        holds,
-    }
-}
 
-// The pairs of present subjects, ascending by the left, then by the right subject.
-fn pairs<L: Table, R: Table>(
-    heap: Global,
-    left: &L,
-    right: &R,
-    conditions: &[Condition],
-) -> Result<Vec<Pair>, Trouble> {
-    let mut pairs = Vec::new(heap);
-    for s in 0..left.subjects() {
-        for t in 0..right.subjects() {
-            if left.is_present(s) && right.is_present(t) {
-                pairs.push(judge(left, right, conditions, s, t))?;
+    // The pairs of present subjects, ascending by the left, then by the right subject.
+    fn pairs(&self, heap: Global) -> Result<Vec<Pair>, Trouble> {
+        let mut pairs = Vec::new(heap);
+        // Tables are asked by number.
+        for s in 0..self.left.subjects() {
+            for t in 0..self.right.subjects() {
+                if self.left.is_present(s) && self.right.is_present(t) {
+                    pairs.push(self.judge(s, t))?;
+                }
             }
         }
+        Ok(pairs)
     }
-    Ok(pairs)
 }
 
 fn count_present<T: Table>(table: &T) -> usize {
-    let mut count: usize = 0;
-    for s in 0..table.subjects() {
-        if table.is_present(s) {
-            count = count.saturating_add(1);
-        }
-    }
-    count
+    (0..table.subjects())
+        .filter(|s| table.is_present(*s))
+        .count()
 }
 
 // Asks the two tables.
@@ -107,12 +101,17 @@ pub fn gather<L: Table, R: Table>(
     right: &R,
     conditions: &[Condition],
 ) -> Result<Facts, Trouble> {
+    let sides = Sides {
+        left,
+        right,
+        conditions,
+    };
     Ok(Facts {
         lefts: left.subjects(),
         rights: right.subjects(),
         left_present: count_present(left),
         right_present: count_present(right),
         conditions: conditions.len(),
-        pairs: pairs(heap, left, right, conditions)?,
+        pairs: sides.pairs(heap)?,
     })
 }

@@ -1,4 +1,4 @@
-// Lists of values, asked through their tables and compared as sets.
+// Lists of values, asked through their tables and compared as sets. The enumeration has its own, so that it leans on nothing that it checks.
 use tables::Table;
 
 // The list at a subject and a property.
@@ -27,37 +27,18 @@ impl<'a, T: Table> List<'a, T> {
     }
 
     fn has(&self, value: u32) -> bool {
-        for i in 0..self.len() {
-            if self.at(i) == Some(value) {
-                return true;
-            }
-        }
-        false
+        (0..self.len()).any(|i| self.at(i) == Some(value))
     }
 }
 
 // Whether a value is in both lists.
 pub fn share<L: Table, R: Table>(left: &List<'_, L>, right: &List<'_, R>) -> bool {
-    for i in 0..left.len() {
-        if let Some(value) = left.at(i) {
-            if right.has(value) {
-                return true;
-            }
-        }
-    }
-    false
+    (0..left.len()).any(|i| left.at(i).is_some_and(|value| right.has(value)))
 }
 
 // Whether every value of the first list is in the second.
 fn lies_within<L: Table, R: Table>(left: &List<'_, L>, right: &List<'_, R>) -> bool {
-    for i in 0..left.len() {
-        if let Some(value) = left.at(i) {
-            if !right.has(value) {
-                return false;
-            }
-        }
-    }
-    true
+    (0..left.len()).all(|i| left.at(i).is_some_and(|value| right.has(value)))
 }
 
 // Whether both lists have the same values, and at least one.

@@ -26,7 +26,7 @@ const START: u64 = 88172645463325252;
 
 fn main(rt: HostRuntime) -> anyhow::Result<()> {
     let mut random = Random::new(START);
-    let mut totals = Totals::new();
+    let mut totals = Totals::default();
     for round in 0..ROUNDS {
         let shape = Shape::of(round);
         match shape.play(rt.alloc(), &mut random) {

@@ -8,7 +8,6 @@ use crate::trouble::{Trouble, expect};
 use contexts::Context;
 use drafts::{Draft, Undrafted};
 use listings::{Unstarted, start};
-use records::Fault;
 use std::alloc::Global;
 use tables::Table;
 
@@ -26,11 +25,10 @@ pub struct Seen {
 // Adds every condition that is asked for, and compares the answers.
 fn add_all<L: Table, R: Table>(draft: &mut Draft<L, R>, asked: &[Asked]) -> Result<(), Trouble> {
     for one in asked {
-        let refusal = match draft.add(one.condition) {
-            Ok(()) => None,
-            Err(fault) => Some(fault.number()),
-        };
-        expect(refusal == one.refusal, "the answer to a condition")?;
+        expect(
+            draft.add(one.condition) == one.due,
+            "the answer to a condition",
+        )?;
     }
     Ok(())
 }
@@ -42,6 +40,7 @@ fn list<C: Context>(
     facts: &Facts,
     expected: &[Found],
 ) -> (C, Result<(), Trouble>) {
+    // Both ways hand the context back, so `?` does not do here.
     match start(heap, context) {
         Ok(mut listing) => {
             let compared = check_listing(&mut listing, facts, expected);
@@ -63,13 +62,10 @@ fn compare_drafted<L: Table + Drop, R: Table + Drop>(
     facts: &Facts,
     expected: &[Found],
 ) -> Result<(L, R), Trouble> {
-    let mut draft = match Draft::new(heap, left, right) {
-        Ok(draft) => draft,
-        Err(undrafted) => {
-            let Undrafted { left: _, right: _ } = undrafted;
-            return Err(Trouble::NoMemory);
-        }
-    };
+    let mut draft = Draft::new(heap, left, right).map_err(|undrafted| {
+        let Undrafted { left: _, right: _ } = undrafted;
+        Trouble::NoMemory
+    })?;
     let added = add_all(&mut draft, asked);
     let book = draft.book(heap);
     let (live, compared) = list(heap, draft.start(), facts, expected);
@@ -83,14 +79,13 @@ fn compare_drafted<L: Table + Drop, R: Table + Drop>(
 
 fn count_seen(conditions: &Conditions, facts: &Facts, expected: &[Found]) -> Seen {
     let accepted = conditions.accepted.len() as u64;
-    let mut joint: u64 = 0;
-    let mut links: u64 = 0;
-    for found in expected {
-        links = links.saturating_add(found.links.len() as u64);
-        if !is_of_one_pair(facts, found.code) {
-            joint = joint.saturating_add(1);
-        }
-    }
+    let joint = expected
+        .iter()
+        .filter(|found| !is_of_one_pair(facts, found.code))
+        .count() as u64;
+    let links = expected.iter().fold(0, |links: u64, found| {
+        links.saturating_add(found.links.len() as u64)
+    });
     Seen {
         conditions: accepted,
         refused: (conditions.asked.len() as u64).saturating_sub(accepted),

@@ -44,9 +44,10 @@ fn push_triples(
 ) -> Result<(), Trouble> {
     for value in 0..VALUES {
         if (values >> value) % 2 == 1 {
-            bytes.extend_from_slice(&subject.to_le_bytes())?;
-            bytes.extend_from_slice(&property.to_le_bytes())?;
-            bytes.extend_from_slice(&value.to_le_bytes())?;
+            // By hand, so that the input leans on nothing that is checked.
+            for field in [subject, property, value] {
+                bytes.extend_from_slice(&field.to_le_bytes())?;
+            }
         }
     }
     Ok(())
@@ -73,10 +74,9 @@ pub fn register(heap: Global, random: &mut Random) -> Result<RegisterFile, Troub
     let subjects = subjects(random);
     let properties = properties(random);
     let bytes = triples(heap, random, subjects, properties)?;
-    match RegisterFile::new(bytes, subjects as usize, properties as usize) {
-        Ok(file) => Ok(file),
-        Err(_) => Err(Trouble::Differs("a register file was refused")),
-    }
+    RegisterFile::new(bytes, subjects as usize, properties as usize).map_err(|_| Trouble::Differs(
+        "a register file was refused",
+    ))
 }
 
 // The words of one subject, which is absent one time in six.
@@ -98,10 +98,9 @@ pub fn sheet(heap: Global, random: &mut Random) -> Result<TickSheet, Trouble> {
     for _ in 0..subjects {
         push_row(&mut words, random, properties)?;
     }
-    match TickSheet::new(words, subjects as usize, properties as usize) {
-        Ok(sheet) => Ok(sheet),
-        Err(_) => Err(Trouble::Differs("a tick sheet was refused")),
-    }
+    TickSheet::new(words, subjects as usize, properties as usize).map_err(|_| Trouble::Differs(
+        "a tick sheet was refused",
+    ))
 }
 
 // Up to three entries; those that the list refuses are left out.

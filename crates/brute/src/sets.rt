@@ -17,11 +17,5 @@ pub fn is_member(x: u64, k: usize, i: usize) -> bool {
 
 // How many conditions the set has.
 pub fn count_members(x: u64, k: usize) -> usize {
-    let mut count: usize = 0;
-    for i in 0..k {
-        if is_member(x, k, i) {
-            count = count.saturating_add(1);
-        }
-    }
-    count
+    (0..k).filter(|i| is_member(x, k, *i)).count()
 }

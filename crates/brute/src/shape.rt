@@ -110,6 +110,7 @@ fn of_kind<T: Table>(random: &mut Random, below: T) -> KindLayer<T> {
     KindLayer::new(below, property, value)
 }
 
+// `picked` is the same of another layer; a trait over the two would be longer than both.
 fn folded<T: Table + Drop>(
     heap: Global,
     random: &mut Random,

@@ -2,7 +2,7 @@
 use crate::round::Seen;
 use std::fmt;
 
-#[derive(Clone, Copy)]
+#[derive(Clone, Copy, Default)]
 pub struct Totals {
     rounds: u64,
     layered: u64,
@@ -15,19 +15,6 @@ pub struct Totals {
 }
 
 impl Totals {
-    pub fn new() -> Totals {
-        Totals {
-            rounds: 0,
-            layered: 0,
-            idle: 0,
-            conditions: 0,
-            refused: 0,
-            candidates: 0,
-            joint: 0,
-            links: 0,
-        }
-    }
-
     // Counts a round.
     pub fn add(&mut self, seen: Seen, has_layers: bool) {
         self.rounds = self.rounds.saturating_add(1);

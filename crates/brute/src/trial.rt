@@ -2,8 +2,8 @@
 use crate::enumeration::Found;
 use crate::facts::{Facts, Pair};
 use crate::trouble::{Trouble, expect};
-use listings::{Listing, Taken};
-use records::{Candidate, Candidates, Fault, Links, read};
+use listings::{Listing, PageFault, TakeFault, Taken, Tally, TotalFault};
+use records::{Candidate, Link, read};
 
 // What stands in a buffer before a call, and must stand there behind it wherever nothing was to be written.
 const MARK: u8 = 165;
@@ -20,39 +20,21 @@ const LINK: usize = 8;
 
 // Whether all bytes but those from `start` to `end` are marks.
 fn is_marked(buffer: &[u8], start: usize, end: usize) -> bool {
-    for (i, byte) in buffer.iter().enumerate() {
-        if (i < start || i >= end) && *byte != MARK {
-            return false;
-        }
-    }
-    true
+    buffer
+        .iter()
+        .enumerate()
+        .all(|(i, byte)| start <= i && i < end || *byte == MARK)
 }
 
-// Whether the answer is the refusal of this number, at place 0.
-fn is_refused<T, F: Fault>(answer: &Result<T, F>, number: u32) -> bool {
-    match answer {
-        Ok(_) => false,
-        Err(fault) => fault.number() == number && fault.place() == 0,
-    }
-}
-
-fn check_tally<C>(
-    listing: &Listing<C>,
-    handed: usize,
-    last: u64,
-    ended: bool,
-) -> Result<(), Trouble> {
-    let tally = listing.tally();
-    expect(tally.handed == handed as u64, "a tally's count")?;
-    expect(tally.last == last, "a tally's last code")?;
-    expect(tally.ended == ended, "a tally's end")
+fn check_tally<C>(listing: &Listing<C>, due: Tally) -> Result<(), Trouble> {
+    expect(listing.tally() == due, "a tally")
 }
 
 // A take that lacks one byte is refused.
 fn check_short_take<C>(listing: &mut Listing<C>) -> Result<(), Trouble> {
     let mut buffer = [MARK; SPACE];
     let taken = listing.take(SPACE - CANDIDATE + 1, &mut buffer);
-    expect(is_refused(&taken, 24), "a take without space")?;
+    expect(taken == Err(TakeFault::NoSpace), "a take without space")?;
     expect(is_marked(&buffer, 0, 0), "the buffer of a refused take")
 }
 
@@ -60,22 +42,22 @@ fn check_refused_page<C>(
     listing: &Listing<C>,
     from: usize,
     buffer: &mut [u8],
-    number: u32,
+    fault: PageFault,
 ) -> Result<(), Trouble> {
-    expect(
-        is_refused(&listing.page(from, buffer), number),
-        "a page to refuse",
-    )?;
+    expect(listing.page(from, buffer) == Err(fault), "a page to refuse")?;
     expect(is_marked(buffer, 0, 0), "the buffer of a refused page")
 }
 
 // Before the first take there is nothing to tell.
 fn check_start<C>(listing: &mut Listing<C>) -> Result<(), Trouble> {
-    check_tally(listing, 0, 0, false)?;
-    expect(is_refused(&listing.total(), 28), "a total before the end")?;
-    check_refused_page(listing, 0, &mut [MARK; PAGE], 25)?;
+    check_tally(listing, Tally::default())?;
+    expect(
+        listing.total() == Err(TotalFault::NotEnded),
+        "a total before the end",
+    )?;
+    check_refused_page(listing, 0, &mut [MARK; PAGE], PageFault::NoCandidate)?;
     check_short_take(listing)?;
-    check_tally(listing, 0, 0, false)
+    check_tally(listing, Tally::default())
 }
 
 fn check_record(record: Candidate, facts: &Facts, found: &Found) -> Result<(), Trouble> {
@@ -115,33 +97,32 @@ fn check_take<C>(
 ) -> Result<(), Trouble> {
     let at = n % (SPACE - CANDIDATE + 1);
     let mut buffer = [MARK; SPACE];
-    match listing.take(at, &mut buffer) {
-        Ok(Taken::Handed) => {}
-        Ok(Taken::Ended) => return Err(Trouble::Differs("a candidate is missing")),
-        Err(_) => return Err(Trouble::Differs("a take was refused")),
-    }
+    let taken = listing
+        .take(at, &mut buffer)
+        .map_err(|_| Trouble::Differs("a take was refused"))?;
+    expect(taken == Taken::Handed, "a candidate is missing")?;
     expect(
         is_marked(&buffer, at, at + CANDIDATE),
         "bytes beside a record",
     )?;
-    match read::<Candidates>(&buffer[at..], 0) {
-        Ok(record) => check_record(record, facts, found),
-        Err(_) => Err(Trouble::Differs("a record does not read")),
-    }
+    let Ok(record) = read(&buffer[at..], 0) else {
+        return Err(Trouble::Differs("a record does not read"));
+    };
+    check_record(record, facts, found)
 }
 
 // Link number `from + j` stands as record `j` of a page.
 fn check_link(page: &[u8], j: usize, links: &[Pair], from: usize) -> Result<(), Trouble> {
-    let Ok(link) = read::<Links>(page, j) else {
+    let Ok(link) = read::<Link>(page, j) else {
         return Err(Trouble::Differs("a link does not read"));
     };
-    match links.get(from.saturating_add(j)) {
-        Some(pair) => expect(
-            link.left as usize == pair.left && link.right as usize == pair.right,
-            "a link",
-        ),
-        None => Err(Trouble::Differs("a link too many")),
-    }
+    let pair = links
+        .get(from.saturating_add(j))
+        .ok_or(Trouble::Differs("a link too many"))?;
+    expect(
+        link.left as usize == pair.left && link.right as usize == pair.right,
+        "a link",
+    )
 }
 
 fn check_page<C>(listing: &Listing<C>, links: &[Pair], from: usize) -> Result<(), Trouble> {
@@ -155,6 +136,7 @@ fn check_page<C>(listing: &Listing<C>, links: &[Pair], from: usize) -> Result<()
         is_marked(&page, 0, due.saturating_mul(LINK)),
         "bytes beside a page",
     )?;
+    // Records of a page are read by number.
     for j in 0..due {
         check_link(&page, j, links, from)?;
     }
@@ -170,25 +152,26 @@ fn check_pages<C>(listing: &Listing<C>, links: &[Pair]) -> Result<(), Trouble> {
         listing,
         links.len().saturating_add(1),
         &mut [MARK; PAGE],
-        26,
+        PageFault::PastLinks,
     )?;
-    check_refused_page(listing, 0, &mut [MARK; LINK - 1], 27)
+    check_refused_page(listing, 0, &mut [MARK; LINK - 1], PageFault::NoSpace)
 }
 
 // Takes say "ended" from here on, and write nothing.
 fn check_ended<C>(listing: &mut Listing<C>, handed: usize, last: u64) -> Result<(), Trouble> {
     let mut buffer = [MARK; SPACE];
-    match listing.take(1, &mut buffer) {
-        Ok(Taken::Ended) => {}
-        Ok(Taken::Handed) => return Err(Trouble::Differs("a candidate too many")),
-        Err(_) => return Err(Trouble::Differs("a take at the end was refused")),
-    }
+    let taken = listing
+        .take(1, &mut buffer)
+        .map_err(|_| Trouble::Differs("a take at the end was refused"))?;
+    expect(taken == Taken::Ended, "a candidate too many")?;
     expect(is_marked(&buffer, 0, 0), "the buffer of a take at the end")?;
-    check_tally(listing, handed, last, true)?;
-    match listing.total() {
-        Ok(total) => expect(total == handed as u64, "a total"),
-        Err(_) => Err(Trouble::Differs("a total at the end was refused")),
-    }
+    let due = Tally {
+        handed: handed as u64,
+        last,
+        ended: true,
+    };
+    check_tally(listing, due)?;
+    expect(listing.total() == Ok(handed as u64), "a total")
 }
 
 // The end, twice, and the links of the last candidate once more.
@@ -203,7 +186,7 @@ fn check_end<C>(listing: &mut Listing<C>, expected: &[Found]) -> Result<(), Trou
         }
         None => {
             check_ended(listing, 0, 0)?;
-            check_refused_page(listing, 0, &mut [MARK; PAGE], 25)?;
+            check_refused_page(listing, 0, &mut [MARK; PAGE], PageFault::NoCandidate)?;
             check_ended(listing, 0, 0)
         }
     }
@@ -220,8 +203,16 @@ pub fn check_listing<C>(
         check_take(listing, n, facts, found)?;
         check_pages(listing, found.links.as_slice())?;
         check_short_take(listing)?;
-        check_tally(listing, n + 1, found.code, false)?;
-        expect(is_refused(&listing.total(), 28), "a total before the end")?;
+        let due = Tally {
+            handed: n as u64 + 1,
+            last: found.code,
+            ended: false,
+        };
+        check_tally(listing, due)?;
+        expect(
+            listing.total() == Err(TotalFault::NotEnded),
+            "a total before the end",
+        )?;
     }
     check_end(listing, expected)
 }

@@ -3,7 +3,7 @@
 
 use drafts::Draft;
 use listings::{Listing, Unstarted, start};
-use report::{OpenError, Source, end_line, fault_line, next_line, open_draft, open_register};
+use report::{Source, accepted, end_line, next_line, open_draft, open_register};
 use std::alloc::AllocError;
 use std::io::Read;
 use std::{fs, io};
@@ -12,7 +12,7 @@ use tables::RegisterFile;
 // One byte more than a file may have shows that it is too long.
 const ENOUGH: u64 = report::file::LONGEST as u64 + 1;
 
-// A file that does not open counts as empty.
+// A file that does not open counts as empty. Both programs have this: of a file's bytes no call can promise anything, so it is no call of `report`.
 fn contents(rt: &HostRuntime, path: &str) -> io::Result<Vec<u8>> {
     let mut bytes = Vec::new(rt.alloc());
     let Ok(file) = fs::open(rt, path) else {
@@ -22,35 +22,18 @@ fn contents(rt: &HostRuntime, path: &str) -> io::Result<Vec<u8>> {
     Ok(bytes)
 }
 
-// What was opened; a refused file prints its fault line and gives nothing.
-fn accepted<T>(
-    rt: &HostRuntime,
-    source: Source,
-    opened: Result<T, OpenError>,
-) -> io::Result<Option<T>> {
-    match opened {
-        Ok(records) => Ok(Some(records)),
-        Err(OpenError::Fault(fault)) => {
-            rt.print(fault_line(rt.alloc(), source, &fault)?)?;
-            Ok(None)
-        }
-        Err(OpenError::NoMemory) => Err(AllocError.into()),
-    }
-}
-
 // Prints a line for each candidate as it is taken, and the end.
 fn print_candidates<C>(rt: &HostRuntime, listing: &mut Listing<C>) -> io::Result<()> {
     while let Some(line) = next_line(rt.alloc(), listing)? {
         rt.print(line)?;
     }
-    match listing.total() {
-        Ok(total) => rt.print(end_line(rt.alloc(), total)?),
-        Err(_) => unreachable(),
-    }
+    let total = listing.total().unwrap();
+    rt.print(end_line(rt.alloc(), total)?)
 }
 
 // Lists the candidates of the draft.
 fn list(rt: &HostRuntime, draft: Draft<RegisterFile, RegisterFile>) -> io::Result<()> {
+    // Both ways let the tables go by name, so `?` does not do here.
     match start(rt.alloc(), draft.start()) {
         Ok(mut listing) => {
             let printed = print_candidates(rt, &mut listing);
@@ -65,6 +48,7 @@ fn list(rt: &HostRuntime, draft: Draft<RegisterFile, RegisterFile>) -> io::Resul
     }
 }
 
+// As in `listing`, a file is read only where those before it were opened.
 fn main(rt: HostRuntime) -> io::Result<()> {
     let heap = rt.alloc();
     let left = open_register(heap, contents(&rt, "left.reg")?);

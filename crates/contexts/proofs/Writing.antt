@@ -1,16 +1,17 @@
 -- What stands where in the words of a relation's book.
-use Rattle.std.proofs.Common.{◌≡◌, ℕ, zero, suc, ◌+◌, ◌-◌, ◌*◌, ◌/◌, ◌%◌, ◌^◌, ◌<◌, ◌≤◌, Bool, true, false, cond, ◌&&◌, ◌||◌, eqb, ltb, leb, List, ◌++◌, map, length, get_or, Some, None, sym, refl, ap, ◌∙◌, ⊎_elim, add-zero, mod-lt, suc-mul, div-lt_iff_lt-mul, mul-zero, div-add-mod', zero-add, zero-mul, arith, length-append}
+use Rattle.std.proofs.Common.{◌≡◌, ℕ, zero, suc, ◌+◌, ◌-◌, ◌*◌, ◌/◌, ◌%◌, ◌^◌, ◌<◌, ◌≤◌, Bool, true, false, cond, ◌&&◌, ◌||◌, eqb, ltb, List, ◌++◌, map, length, get_or, None, sym, refl, ap, ◌∙◌, ⊎_elim, add-zero, mod-lt, suc-mul, div-lt_iff_lt-mul, mul-zero, div-add-mod', zero-add, zero-mul, arith, length-append}
 use Rattle.std.proofs.lemmas.List.FromFn.{length-map-range_with_len, get_or-map-range_with_len}
 use Rattle.std.proofs.lemmas.List.{get_or_append_left, get_or-append_right}
-use Rattle.std.proofs.lemmas.Bool.{cond-true, cond-false, and_from, le-leb, lt-ltb, le-ltb, eq-eqb, cases_lt, cases_Bool, and_left, and_right, or_left, or_right}
+use Rattle.std.proofs.lemmas.Bool.Decides.{nat_tests}
+use Rattle.std.proofs.lemmas.Grind.{common_steps}
+use Rattle.std.proofs.lemmas.Bool.{and_from, lt-ltb, cases_lt}
 use Rattle.std.specs.List.{range_with_len, flat_map}
 use Rattle.lattice.specs.Sets.{range}
-use Rattle.records.specs.Questions.{first_no}
 use Rattle.contexts.specs.Book.{presence_word, book_size, book_words, pair_place, book}
-use Rattle.contexts.specs.BookOpening.{presence_known, both_present, code_allowed, first_failing, book_fault}
+use Rattle.contexts.specs.BookOpening.{presence_known, both_present, code_allowed, book_fault}
 use Rattle.contexts.specs.Laws.{BooksComeBack}
 use Rattle.contexts.specs.Relation.{Relation, Sound}
-use Rattle.contexts.specs.Failing.{none_fails}
+use Rattle.contexts.proofs.Failing.{none_fails}
 
 -- rows of codes one behind another
 abbrev rows : (ℕ → ℕ → ℕ) → ℕ → ℕ → ℕ → List ℕ
@@ -97,32 +98,13 @@ word_small true = omega arith
 word_small false = omega arith
 
 left_tells : (c : Relation) → Sound c → (s : ℕ) → (ltb s c.lefts && eqb (get_or (book_words c) s 0) 1) ≡ c.left_present s
-left_tells c sound s =
-    ⊎_elim
-    (λ (l : s < c.lefts).
-    ap (λ (b : Bool). b && eqb (get_or (book_words c) s 0) 1) (lt-ltb s c.lefts l) ∙ ap (λ (w : ℕ). eqb w 1) (left_word c s l) ∙ word_tells (c.left_present s))
-    (λ (l : c.lefts ≤ s). and_left (ltb s c.lefts) _ (le-ltb s c.lefts l) ∙ sym (sound.left_absent_beyond s l))
-    (cases_lt s c.lefts)
+left_tells c sound s = grind (arith, common_steps, nat_tests, left_word c s, word_tells (c.left_present s), sound.left_absent_beyond s)
 
 right_tells : (c : Relation) → Sound c → (t : ℕ) → (ltb t c.rights && eqb (get_or (book_words c) (c.lefts + t) 0) 1) ≡ c.right_present t
-right_tells c sound t =
-    ⊎_elim
-    (λ (l : t < c.rights).
-    ap (λ (b : Bool). b && eqb (get_or (book_words c) (c.lefts + t) 0) 1) (lt-ltb t c.rights l) ∙ ap (λ (w : ℕ). eqb w 1) (right_word c t l) ∙ word_tells (c.right_present t))
-    (λ (l : c.rights ≤ t). and_left (ltb t c.rights) _ (le-ltb t c.rights l) ∙ sym (sound.right_absent_beyond t l))
-    (cases_lt t c.rights)
+right_tells c sound t = grind (arith, common_steps, nat_tests, right_word c t, word_tells (c.right_present t), sound.right_absent_beyond t)
 
 code_tells : (c : Relation) → Sound c → (s t : ℕ) → cond (ltb s c.lefts && ltb t c.rights) (get_or (book_words c) (pair_place c.lefts c.rights s t) 0) 0 ≡ c.code s t
-code_tells c sound s t =
-    let w = get_or (book_words c) (pair_place c.lefts c.rights s t) 0 in
-    ⊎_elim
-    (λ (hs : s < c.lefts).
-    ⊎_elim
-    (λ (ht : t < c.rights). cond-true (ltb s c.lefts && ltb t c.rights) w 0 (and_from _ _ (lt-ltb s c.lefts hs) (lt-ltb t c.rights ht)) ∙ pair_word c s t hs ht)
-    (λ (ht : c.rights ≤ t). cond-false (ltb s c.lefts && ltb t c.rights) w 0 (and_right _ _ (le-ltb t c.rights ht)) ∙ sym (sound.right_absent_none s t (sound.right_absent_beyond t ht)))
-    (cases_lt t c.rights))
-    (λ (hs : c.lefts ≤ s). cond-false (ltb s c.lefts && ltb t c.rights) w 0 (and_left _ _ (le-ltb s c.lefts hs)) ∙ sym (sound.left_absent_none s t (sound.left_absent_beyond s hs)))
-    (cases_lt s c.lefts)
+code_tells c sound s t = grind (arith, common_steps, nat_tests, pair_word c s t, sound.left_absent_none s t, sound.right_absent_none s t, sound.left_absent_beyond s, sound.right_absent_beyond t)
 
 pub book_means : (c : Relation) → Sound c → book (book_words c) c.lefts c.rights c.conditions ≡ c
 book_means c sound = λ i. record {
@@ -136,27 +118,13 @@ book_means c sound = λ i. record {
 
 presences_pass : (c : Relation) (i : ℕ) → i < c.lefts + c.rights → presence_known (book_words c) i ≡ true
 presences_pass c i h =
-    ⊎_elim
-    (λ (l : i < c.lefts). le-leb (get_or (book_words c) i 0) 1 (omega (arith, left_word c i l, word_small (c.left_present i))))
-    (λ (l : c.lefts ≤ i).
-    let t = i - c.lefts in
-    let there : c.lefts + t ≡ i = omega arith in
-    le-leb (get_or (book_words c) i 0) 1 (omega (arith, ap (λ (k : ℕ). get_or (book_words c) k 0) there, right_word c t (omega arith), word_small (c.right_present t))))
-    (cases_lt i c.lefts)
+    let right : c.lefts ≤ i → get_or (book_words c) i 0 ≡ presence_word (c.right_present (i - c.lefts)) = λ l. let there : c.lefts + (i - c.lefts) ≡ i = omega arith in ap (λ (k : ℕ). get_or (book_words c) k 0) (sym there) ∙ right_word c (i - c.lefts) (omega arith) in
+    grind (arith, common_steps, nat_tests, left_word c i, right, word_small (c.left_present i), word_small (c.right_present (i - c.lefts)))
 
 -- a code may stand where both are present, and else it is 0
 pair_allowed : (c : Relation) → Sound c → (s t : ℕ) → s < c.lefts → t < c.rights → (both_present (book_words c) c.lefts s t || eqb (c.code s t) 0) ≡ true
 pair_allowed c sound s t hs ht =
-    let left : eqb (get_or (book_words c) s 0) 1 ≡ c.left_present s = ap (λ (w : ℕ). eqb w 1) (left_word c s hs) ∙ word_tells (c.left_present s) in
-    let right : eqb (get_or (book_words c) (c.lefts + t) 0) 1 ≡ c.right_present t = ap (λ (w : ℕ). eqb w 1) (right_word c t ht) ∙ word_tells (c.right_present t) in
-    ⊎_elim
-    (λ (p : c.left_present s ≡ true).
-    ⊎_elim
-    (λ (q : c.right_present t ≡ true). or_left _ _ (and_from _ _ (left ∙ p) (right ∙ q)))
-    (λ (q : c.right_present t ≡ false). or_right _ _ (eq-eqb (c.code s t) 0 (sound.right_absent_none s t q)))
-    (cases_Bool (c.right_present t)))
-    (λ (p : c.left_present s ≡ false). or_right _ _ (eq-eqb (c.code s t) 0 (sound.left_absent_none s t p)))
-    (cases_Bool (c.left_present s))
+    grind (arith, common_steps, nat_tests, left_word c s hs, right_word c t ht, word_tells (c.left_present s), word_tells (c.right_present t), sound.left_absent_none s t, sound.right_absent_none s t)
 
 codes_pass : (c : Relation) → Sound c → (i : ℕ) → c.lefts + c.rights ≤ i → i < c.lefts + c.rights + c.lefts * c.rights → code_allowed (book_words c) c.lefts c.rights c.conditions i ≡ true
 codes_pass c sound i l u =
@@ -176,13 +144,9 @@ codes_pass c sound i l u =
 pub book_unrefused : (c : Relation) → Sound c → book_fault (book_words c) c.lefts c.rights c.conditions ≡ None
 book_unrefused c sound =
     let words = book_words c in
-    let sizes = and_from (leb c.lefts 2048) (leb c.rights 2048 && leb c.conditions 64) (le-leb c.lefts 2048 sound.few_lefts) (and_from (leb c.rights 2048) (leb c.conditions 64) (le-leb c.rights 2048 sound.few_rights) (le-leb c.conditions 64 sound.few_conditions)) in
     let presences = none_fails 22 (presence_known words) 0 (c.lefts + c.rights) (λ i l u. presences_pass c i (omega arith)) in
     let codes = none_fails 23 (code_allowed words c.lefts c.rights c.conditions) (c.lefts + c.rights) (c.lefts * c.rights) (codes_pass c sound) in
-    cond-true _ _ (Some (20, 0)) sizes
-    ∙ cond-true _ _ (Some (21, 0)) (eq-eqb (length words) (book_size c.lefts c.rights) (length_book c))
-    ∙ ap (λ o. first_no o (first_failing 23 (code_allowed words c.lefts c.rights c.conditions) (c.lefts + c.rights) (c.lefts * c.rights))) presences
-    ∙ codes
+    grind (arith, common_steps, nat_tests, presences, codes, length_book c, sound.few_lefts, sound.few_rights, sound.few_conditions)
 
 pub book_comes_back : BooksComeBack
 book_comes_back c sound = (book_unrefused c sound, book_means c sound)

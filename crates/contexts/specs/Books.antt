@@ -1,9 +1,10 @@
--- What the questions to a book's words make sure of.
-use Rattle.std.specs.Prelude.{◌≡◌, ℕ, ◌+◌, ◌-◌, ◌*◌, ◌/◌, ◌%◌, ◌^◌, ◌<◌, ◌≤◌, Bool, true, false, ◌&&◌, ◌||◌, ltb, List, length, is_some, ◌==◌, nat_eq, nat_le, nat_lt, slice_index, refl}
-use Rattle.std.proofs.Common.{sym, ap, ◌∙◌, ⊎_elim, arith, mul-le-mul_right, add-mul, one-mul, pow_pos}
+-- What the questions to a book's words make sure of. The lemmas stand here and not in proofs/: src/ cites them, and can cite nothing of its own crate's proofs/.
+use Rattle.std.specs.Prelude.{◌≡◌, ℕ, ◌+◌, ◌-◌, ◌*◌, ◌/◌, ◌%◌, ◌^◌, ◌<◌, ◌≤◌, Bool, true, false, ◌&&◌, ◌||◌, List, length, is_some, ◌==◌, nat_lt, slice_index, refl}
+use Rattle.std.proofs.Common.{sym, ap, ◌∙◌, arith, mul-le-mul_right, add-mul, one-mul, pow_pos}
 use Rattle.std.proofs.Math.Arith.{digits_div, digits_mod}
-use Rattle.std.proofs.lemmas.Bool.{and_parts, and_left, and_right, and_cases, leb-true, ltb-true, lt-ltb, le-ltb, eqb-true, cond_both, true≢false}
-use Rattle.records.proofs.Questions.{answered, both_answered}
+use Rattle.std.proofs.lemmas.Bool.Decides.{nat_tests}
+use Rattle.std.proofs.lemmas.Bool.{and_parts, and_left, and_right, ltb-true, le-ltb, cond_both}
+use Rattle.records.proofs.Questions.{both_answered}
 use Rattle.contexts.specs.Book.{book, book_size, pair_place}
 use Rattle.contexts.specs.BookOpening.{presence_known, both_present, code_allowed, first_failing, book_fault}
 use Rattle.contexts.specs.Relation.{Sound}
@@ -26,16 +27,14 @@ pub record Facts (words : List ℕ) (lefts rights conditions : ℕ) : Type 0 whe
 
 pub facts : (words : List ℕ) (lefts rights conditions : ℕ) → is_some (book_fault words lefts rights conditions) ≡ false → Facts words lefts rights conditions
 facts words lefts rights conditions h =
-    let one = answered _ _ (20, 0) h in
-    let two = answered _ _ (21, 0) one.1 in
-    let rest = both_answered (first_failing 22 (presence_known words) 0 (lefts + rights)) _ two.1 in
-    let sizes = and_parts (nat_le lefts 2048) _ one.0 in
-    let others = and_parts (nat_le rights 2048) _ sizes.1 in
+    let presence = first_failing 22 (presence_known words) 0 (lefts + rights) in
+    let coded = first_failing 23 (code_allowed words lefts rights conditions) (lefts + rights) (lefts * rights) in
+    let rest : (is_some presence ≡ false) × (is_some coded ≡ false) = grind (arith, nat_tests, both_answered presence coded) in
     record {
-      few_lefts = leb-true lefts 2048 sizes.0;
-      few_rights = leb-true rights 2048 others.0;
-      few_conditions = leb-true conditions 64 others.1;
-      whole = eqb-true (length words) (book_size lefts rights) two.0;
+      few_lefts = grind (arith, nat_tests);
+      few_rights = grind (arith, nat_tests);
+      few_conditions = grind (arith, nat_tests);
+      whole = grind (arith, nat_tests);
       presences = λ i l. all_pass 22 (presence_known words) 0 (lefts + rights) rest.0 i (omega arith) (omega arith);
       codes = λ i l u. all_pass 23 (code_allowed words lefts rights conditions) (lefts + rights) (lefts * rights) rest.1 i l u;
     }
@@ -63,13 +62,11 @@ code_cases words lefts rights conditions s t P none some =
 
 -- a word that is no code of present subjects is 0
 pub zero_unless : (present : Bool) (w : ℕ) → present ≡ false → (present || w == 0) ≡ true → w ≡ 0
-zero_unless false w e h = eqb-true w 0 h
-zero_unless true w e h = absurd (true≢false e)
+zero_unless present w e h = grind (arith, nat_tests)
 
 -- a subject number within the side is absent by its word
 pub absent_word : (n i w : ℕ) → i < n → (nat_lt i n && w == 1) ≡ false → (w == 1) ≡ false
-absent_word n i w h e =
-    ⊎_elim (λ (a : ltb i n ≡ false). absurd (true≢false (sym (lt-ltb i n h) ∙ a))) (λ (b : nat_eq w 1 ≡ false). b) (and_cases (nat_lt i n) (w == 1) e)
+absent_word n i w h e = grind (arith, nat_tests)
 
 pub book_sound : (words : List ℕ) (lefts rights conditions : ℕ) → Facts words lefts rights conditions → Sound (book words lefts rights conditions)
 book_sound words lefts rights conditions f =

@@ -7,6 +7,7 @@ use crate::coded_pair::CodedPair;
 use std::alloc::{AllocError, Global};
 
 // A context. Any number may be asked: out of range is absent, and has code 0.
+// Each side has calls of its own, since `code` has the sides by place and a side as an argument would read worse at each use.
 pub trait Context {
     ghost relation: { Self → Relation };
 
@@ -37,6 +38,7 @@ pub trait Context {
         ensures { IfOk result (λ v. v.items ≡ coded_pairs (relation self.now)) }
     {
         let mut pairs = Vec::new(heap);
+        // By numbers, as these are what a context is asked by.
         for s in 0..self.lefts() {
             for t in 0..self.rights() {
                 let code = self.code(s, t);

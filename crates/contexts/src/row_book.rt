@@ -2,6 +2,9 @@
 ghost use Rattle.std.specs.Prelude.{◌≡◌, false, is_some};
 ghost use Rattle.contexts.specs.BookOpening.{book_fault};
 
+// The presence word of a subject that is present; 0 is that of an absent one.
+const PRESENT: u64 = 1;
+
 // A context of words: the presence words of both sides, then the codes of all pairs, row by row.
 #[derive(Drop)]
 pub struct RowBook {
@@ -31,5 +34,6 @@ pub struct BookRefusal {
 mod asking;
 mod fault;
 mod opening;
+mod pages;
 #[cfg(test)]
 mod tests;

@@ -1,7 +1,12 @@
 -- A frozen draft is a book that opens.
-use Rattle.std.proofs.Common.{◌≡◌, ℕ, Bool, true, cond, List, [], ◌++◌, length, take, drop, None, sym, ap, ◌∙◌, append-nil, arith}
+use Rattle.std.proofs.Common.{◌≡◌, ℕ, Bool, true, cond, List, [], ◌++◌, length, take, drop, Some, None, Result, Ok, Err, refl, sym, ap, ◌∙◌, append-nil, arith}
 use Rattle.std.proofs.lemmas.List.{take_at, drop_all}
 use Rattle.std.proofs.lemmas.Bool.{cond-true}
+use Rattle.std.specs.Result.{IsOk, MatchResult}
+use Rattle.contexts.specs.BookMaking.{BookMade, BookRefused}
+use Rattle.contexts.specs.BookRefusals.{book_refusal}
+use Rattle.contexts.specs.declared.row_book.BookRefusal.{BookRefusal}
+use Rattle.contexts.specs.declared.row_book.RowBook.{RowBook}
 use Rattle.contexts.specs.Book.{book, book_size, book_words}
 use Rattle.contexts.specs.BookOpening.{book_fault}
 use Rattle.contexts.specs.Relation.{Relation, Sound}
@@ -23,3 +28,8 @@ opens c sound w l r k ew el er ek =
       ap (λ (v : List ℕ). book_fault v l r k) ew ∙ ap (λ (v : ℕ). book_fault (book_words c) v r k) el ∙ ap (λ (v : ℕ). book_fault (book_words c) c.lefts v k) er ∙ ap (book_fault (book_words c) c.lefts c.rights) ek ∙ back.0,
       ap (λ (v : List ℕ). book v l r k) ew ∙ ap (λ (v : ℕ). book (book_words c) v r k) el ∙ ap (λ (v : ℕ). book (book_words c) c.lefts v k) er ∙ ap (book (book_words c) c.lefts c.rights) ek ∙ back.1,
     )
+
+-- what no question refuses is a book
+pub accepted : (w : List ℕ) (l r k : ℕ) (a : Result RowBook BookRefusal) → MatchResult a (BookMade w l r k) (BookRefused w l r k) → book_fault w l r k ≡ None → IsOk a
+accepted w l r k (Ok b) made none = refl
+accepted w l r k (Err e) refused none = let same : Some (book_refusal e.fault) ≡ None = sym refused.first ∙ none in cc

@@ -8,7 +8,7 @@ use Rattle.drafts.specs.Comparisons.{agree}
 use Rattle.drafts.specs.Laws.{SameValues}
 use Rattle.drafts.specs.Live.{holds_at, live_code}
 use Rattle.drafts.specs.declared.comparison.Comparison.{Comparison}
-use Rattle.drafts.specs.Codes.{code_alike}
+use Rattle.drafts.specs.Soundness.{code_alike}
 use Rattle.drafts.proofs.Values.{contains_first, contains_rest, equals_alike, shares_alike}
 
 agree_alike : (k : Kind) (xs us ys vs : List ℕ) → SameValues xs us → SameValues ys vs → agree k xs ys ≡ agree k us vs

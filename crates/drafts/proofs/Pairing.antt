@@ -1,9 +1,8 @@
 -- The pairs that have a code, pushed row by row.
-use Rattle.std.proofs.Common.{◌≡◌, ℕ, zero, suc, ◌+◌, ◌<◌, ◌≤◌, Bool, true, false, cond, not, eqb, List, [], ◌∷◌, ◌++◌, map, length, get_or, drop, filter, sym, refl, ap, ◌∙◌, ap₂, zero-add, add-one, arith}
+use Rattle.std.proofs.Common.{◌≡◌, ℕ, zero, suc, ◌+◌, ◌<◌, Bool, true, false, cond, not, eqb, List, [], ◌∷◌, ◌++◌, map, filter, sym, refl, ap, ◌∙◌, ap₂, zero-add, add-one, arith}
 use Rattle.std.specs.List.{range_with_len, flat_map}
 use Rattle.std.proofs.lemmas.List.FromFn.{fill_by_all, length-map-range_with_len, get_or-map-range_with_len}
-use Rattle.std.proofs.lemmas.List.{append_assoc, append-nil, at_drop_more, at_drop_all, flat_map_more}
-use Rattle.std.proofs.lemmas.Bool.{cond-true, cond-false}
+use Rattle.std.proofs.lemmas.List.{flat_map_more}
 use Rattle.contexts.specs.Pairs.{coded, coded_pairs, has_code, pairs}
 use Rattle.contexts.specs.Relation.{Relation}
 use Rattle.contexts.specs.declared.coded_pair.CodedPair.{CodedPair}
@@ -16,26 +15,6 @@ use Rattle.drafts.specs.declared.comparison.Comparison.{Comparison}
 use Rattle.drafts.specs.declared.draft.prepared.Prepared.{Prepared}
 use Rattle.drafts.proofs.Preparing.{same_code}
 use Rattle.drafts.proofs.Words.{range_more}
-
--- the pair at t has a code
-pub pushed_coded : (s t : ℕ) (codes : List ℕ) (ps qs : List CodedPair) → t < length codes → eqb (get_or codes t 0) 0 ≡ false → qs ≡ ps ++ record { left = s; right = t; code = get_or codes t 0 } ∷ [] → qs ++ coded_from s (t + 1) (drop (t + 1) codes) ≡ ps ++ coded_from s t (drop t codes)
-pushed_coded s t codes ps qs h e pushed =
-    let rest = coded_from s (t + 1) (drop (t + 1) codes) in
-    let here : CodedPair = record { left = s; right = t; code = get_or codes t 0 } in
-    ap (λ (v : List CodedPair). v ++ rest) pushed
-    ∙ append_assoc ps (here ∷ []) rest
-    ∙ ap (λ (v : List CodedPair). ps ++ v) (sym (at_drop_more (coded_from s t) codes t 0 h ∙ cond-false (eqb (get_or codes t 0) 0) rest (here ∷ rest) e))
-
--- or has none
-pub pushed_bare : (s t : ℕ) (codes : List ℕ) (ps qs : List CodedPair) → t < length codes → eqb (get_or codes t 0) 0 ≡ true → qs ≡ ps → qs ++ coded_from s (t + 1) (drop (t + 1) codes) ≡ ps ++ coded_from s t (drop t codes)
-pushed_bare s t codes ps qs h e same =
-    let rest = coded_from s (t + 1) (drop (t + 1) codes) in
-    ap₂ (λ (u v : List CodedPair). u ++ v) same
-    (sym (at_drop_more (coded_from s t) codes t 0 h ∙ cond-true (eqb (get_or codes t 0) 0) rest (record { left = s; right = t; code = get_or codes t 0 } ∷ rest) e))
-
--- at the end no pair is left
-pub pushed_all : (s t : ℕ) (codes : List ℕ) (ps : List CodedPair) → length codes ≤ t → ps ++ coded_from s t (drop t codes) ≡ ps
-pushed_all s t codes ps h = ap (λ (v : List CodedPair). ps ++ v) (at_drop_all (coded_from s t) codes t h) ∙ append-nil ps
 
 -- one more row
 pub rows_push : (row : ℕ → List CodedPair) (ps qs us : List CodedPair) (s : ℕ) → ps ≡ us ++ flat_map row (range s) → qs ≡ ps ++ row s → qs ≡ us ++ flat_map row (range (s + 1))
@@ -68,19 +47,15 @@ codes_are l r cs ps s all h =
     (length-map-range_with_len (prepared_code ps s) 0 r.subjects)
     (λ t k. get_or-map-range_with_len (prepared_code ps s) 0 r.subjects t t 0 k (zero-add t) ∙ same_code l r cs ps s t all h k)
 
--- the rows of prepared comparisons, pushed to none, are the coded pairs of the relation
+-- the rows of prepared comparisons are the coded pairs of the relation
 pub pairs_are :
-    (l r : Meaning) (cs : List Comparison) (ps : List Prepared) (lefts rights : ℕ) (none all : List CodedPair)
+    (l r : Meaning) (cs : List Comparison) (ps : List Prepared) (lefts rights : ℕ)
     → AllPrepared l r cs ps
     → lefts ≡ l.subjects
     → rights ≡ r.subjects
-    → none ≡ []
-    → all ≡ none ++ flat_map (λ s. coded_from s 0 (map (prepared_code ps s) (range rights))) (range lefts)
-    → all ≡ coded_pairs (live l r cs)
+    → flat_map (λ s. coded_from s 0 (map (prepared_code ps s) (range rights))) (range lefts) ≡ coded_pairs (live l r cs)
 unfolding coded_pairs pairs
-pairs_are l r cs ps lefts rights none all prepared el er en pushed =
-    pushed
-    ∙ ap (λ (us : List CodedPair). us ++ flat_map (λ s. coded_from s 0 (map (prepared_code ps s) (range rights))) (range lefts)) en
-    ∙ ap₂ (λ (m n : ℕ). flat_map (λ s. coded_from s 0 (map (prepared_code ps s) (range n))) (range m)) el er
+pairs_are l r cs ps lefts rights prepared el er =
+    ap₂ (λ (m n : ℕ). flat_map (λ s. coded_from s 0 (map (prepared_code ps s) (range n))) (range m)) el er
     ∙ rows_are (live l r cs) (λ s. coded_from s 0 (map (prepared_code ps s) (range r.subjects))) l.subjects
     (λ s h. ap (coded_from s 0) (codes_are l r cs ps s prepared h) ∙ row_is (live l r cs) s 0 r.subjects)

@@ -1,9 +1,10 @@
 -- Prepared comparisons hold where the comparisons do, and have the same codes.
 use Rattle.std.proofs.Common.{◌≡◌, ℕ, zero, suc, ◌+◌, ◌<◌, List, [], ◌∷◌, ◌++◌, length, get_or, take, vec_items, vec_len, Vec, sym, refl, ap, ◌∙◌, subst, ap₂, zero-add, arith}
 use Rattle.std.specs.declared.alloc.Global.{Global}
-use Rattle.std.specs.List.{AllByRecursion}
+use Rattle.std.specs.List.{All, AllByRecursion}
+use Rattle.std.proofs.lemmas.List.Elements.{All-from_recursion}
 use Rattle.std.proofs.lemmas.List.FromFn.{length-map-range_with_len, get_or-map-range_with_len}
-use Rattle.std.proofs.lemmas.List.{length-map, get_or-map, take_more}
+use Rattle.std.proofs.lemmas.List.{length-map, take_more}
 use Rattle.lattice.specs.Sets.{code_of}
 use Rattle.records.specs.declared.kinds.condition.Kind.{Kind}
 use Rattle.tables.specs.Meaning.{Meaning}
@@ -12,7 +13,7 @@ use Rattle.drafts.specs.Live.{holds_at, live_code}
 use Rattle.drafts.specs.Preparing.{AllPrepared, HasLists, Prepares, lists, lists_at, prepared_at, prepared_code, prepared_holds}
 use Rattle.drafts.specs.declared.comparison.Comparison.{Comparison}
 use Rattle.drafts.specs.declared.draft.prepared.Prepared.{Prepared}
-use Rattle.drafts.specs.Codes.{code_alike}
+use Rattle.drafts.specs.Soundness.{code_alike}
 
 -- one more comparison
 prepared_push : (l r : Meaning) (cs : List Comparison) (ps : List Prepared) (c : Comparison) (p : Prepared) → AllPrepared l r cs ps → Prepares l r c p → AllPrepared l r (cs ++ c ∷ []) (ps ++ p ∷ [])
@@ -27,10 +28,6 @@ prepared_more l r cs ps qs i d p h all one pushed =
     let Q : List Prepared → Type 0 = λ vs. AllPrepared l r (take i cs ++ get_or cs i d ∷ []) vs in
     subst P (sym (take_more cs i d h)) (subst Q (sym pushed) (prepared_push l r (take i cs) ps (get_or cs i d) p all one))
 
--- a list that is read in memory
-pub list_read : (v : Vec (Vec ℕ Global) Global) (i : ℕ) (x : Vec ℕ Global) → i < vec_len v → x ≡ get_or (vec_items v) i x → vec_items x ≡ get_or (lists v) i []
-list_read v i x h e = ap vec_items e ∙ sym (get_or-map vec_items (vec_items v) i x [] (omega (arith, v.ok.0)))
-
 -- the copied lists are as many as the subjects
 lists_long : (m : Meaning) (v : Vec (Vec ℕ Global) Global) (p : ℕ) → lists v ≡ lists_at m p → vec_len v ≡ m.subjects
 lists_long m v p e =
@@ -42,13 +39,16 @@ list_held m v s p e h =
     ap (λ (xs : List (List ℕ)). get_or xs s []) e ∙ get_or-map-range_with_len (λ s. m.values s p) 0 m.subjects s s [] h (zero-add s)
 
 -- so each subject has its list
-pub all_held : (l r : Meaning) (cs : List Comparison) (ps : List Prepared) (s : ℕ) → AllPrepared l r cs ps → s < l.subjects → AllByRecursion (HasLists s r.subjects) ps
-all_held l r [] [] s all h = tt
-all_held l r [] (p ∷ ps) s all h = absurd all
-all_held l r (c ∷ cs) [] s all h = absurd all
-all_held l r (c ∷ cs) (p ∷ ps) s all h =
+held_each : (l r : Meaning) (cs : List Comparison) (ps : List Prepared) (s rights : ℕ) → AllPrepared l r cs ps → s < l.subjects → rights ≡ r.subjects → AllByRecursion (HasLists s rights) ps
+held_each l r [] [] s n all h e = tt
+held_each l r [] (p ∷ ps) s n all h e = absurd all
+held_each l r (c ∷ cs) [] s n all h e = absurd all
+held_each l r (c ∷ cs) (p ∷ ps) s n all h e =
     let long = lists_long l p.left c.left all.0.left_lists in
-    (record { left_held = omega arith; rights_held = lists_long r p.right c.right all.0.right_lists }, all_held l r cs ps s all.1 h)
+    (record { left_held = omega arith; rights_held = lists_long r p.right c.right all.0.right_lists ∙ sym e }, held_each l r cs ps s n all.1 h e)
+
+pub all_held : (l r : Meaning) (cs : List Comparison) (ps : List Prepared) (s rights : ℕ) → AllPrepared l r cs ps → s < l.subjects → rights ≡ r.subjects → All (HasLists s rights) ps
+all_held l r cs ps s n all h e = All-from_recursion (HasLists s n) ps (held_each l r cs ps s n all h e)
 
 -- a prepared comparison holds where the comparison does
 prepared_same : (l r : Meaning) (c : Comparison) (p : Prepared) (s t : ℕ) → Prepares l r c p → s < l.subjects → t < r.subjects → prepared_holds p s t ≡ comparison_holds l r c s t

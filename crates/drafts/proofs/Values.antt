@@ -1,10 +1,11 @@
 -- Lists of values as sets: what depends on their values alone.
 use Rattle.std.proofs.Common.{◌≡◌, ℕ, Bool, true, false, cond, not, ◌&&◌, eqb, List, [], ◌∷◌, sym, refl, ap, ◌∙◌, ⊎_elim}
 use Rattle.std.proofs.lemmas.Bool.{false≢true, cond-true, cond-false, eq-eqb, ne_eqb, cases_eq, and_parts, and_from, or_cases, or_left, or_right}
-use Rattle.lattice.specs.Sets.{every, empty}
+use Rattle.std.specs.List.{list_any, list_all}
+use Rattle.lattice.specs.Sets.{empty}
 use Rattle.lattice.proofs.Filters.{same_tests}
 use Rattle.tables.specs.Meaning.{contains}
-use Rattle.drafts.specs.Conditions.{some, shares, within, equals}
+use Rattle.drafts.specs.Conditions.{shares, within, equals}
 use Rattle.drafts.specs.Laws.{SameValues}
 
 pub contains_first : (x : ℕ) (xs : List ℕ) → contains (x ∷ xs) x ≡ true
@@ -17,30 +18,30 @@ contains_rest x v xs h = go (eqb x v)
     go true = refl
     go false = h
 
-some_of : (f : ℕ → Bool) (xs : List ℕ) (v : ℕ) → contains xs v ≡ true → f v ≡ true → some f xs ≡ true
+some_of : (f : ℕ → Bool) (xs : List ℕ) (v : ℕ) → contains xs v ≡ true → f v ≡ true → list_any f xs ≡ true
 some_of f [] v h e = absurd (false≢true h)
 some_of f (x ∷ xs) v h e =
     ⊎_elim
-    (λ (q : x ≡ v). or_left (f x) (some f xs) (ap f q ∙ e))
-    (λ (q : x ≡ v → ⊥). or_right (f x) (some f xs) (some_of f xs v (sym (cond-false _ _ _ (ne_eqb x v q)) ∙ h) e))
+    (λ (q : x ≡ v). or_left (f x) (list_any f xs) (ap f q ∙ e))
+    (λ (q : x ≡ v → ⊥). or_right (f x) (list_any f xs) (some_of f xs v (sym (cond-false _ _ _ (ne_eqb x v q)) ∙ h) e))
     (cases_eq x v)
 
-some_which : (f : ℕ → Bool) (xs : List ℕ) → some f xs ≡ true → (v : ℕ) × (contains xs v ≡ true) × (f v ≡ true)
+some_which : (f : ℕ → Bool) (xs : List ℕ) → list_any f xs ≡ true → (v : ℕ) × (contains xs v ≡ true) × (f v ≡ true)
 some_which f [] h = absurd (false≢true h)
 some_which f (x ∷ xs) h =
     ⊎_elim
     (λ (y : f x ≡ true). (x, contains_first x xs, y))
-    (λ (y : some f xs ≡ true). let r = some_which f xs y in (r.0, contains_rest x r.0 xs r.1, r.2))
-    (or_cases (f x) (some f xs) h)
+    (λ (y : list_any f xs ≡ true). let r = some_which f xs y in (r.0, contains_rest x r.0 xs r.1, r.2))
+    (or_cases (f x) (list_any f xs) h)
 
-every_of : (f : ℕ → Bool) (xs : List ℕ) → ((v : ℕ) → contains xs v ≡ true → f v ≡ true) → every f xs ≡ true
+every_of : (f : ℕ → Bool) (xs : List ℕ) → ((v : ℕ) → contains xs v ≡ true → f v ≡ true) → list_all f xs ≡ true
 every_of f [] h = refl
-every_of f (x ∷ xs) h = and_from (f x) (every f xs) (h x (contains_first x xs)) (every_of f xs (λ v k. h v (contains_rest x v xs k)))
+every_of f (x ∷ xs) h = and_from (f x) (list_all f xs) (h x (contains_first x xs)) (every_of f xs (λ v k. h v (contains_rest x v xs k)))
 
-every_each : (f : ℕ → Bool) (xs : List ℕ) (v : ℕ) → every f xs ≡ true → contains xs v ≡ true → f v ≡ true
+every_each : (f : ℕ → Bool) (xs : List ℕ) (v : ℕ) → list_all f xs ≡ true → contains xs v ≡ true → f v ≡ true
 every_each f [] v h k = absurd (false≢true k)
 every_each f (x ∷ xs) v h k =
-    let both = and_parts (f x) (every f xs) h in
+    let both = and_parts (f x) (list_all f xs) h in
     ⊎_elim
     (λ (q : x ≡ v). ap f (sym q) ∙ both.0)
     (λ (q : x ≡ v → ⊥). every_each f xs v both.1 (sym (cond-false _ _ _ (ne_eqb x v q)) ∙ k))

@@ -1,18 +1,14 @@
 -- Words that are written one by one, row by row, and part by part.
-use Rattle.std.proofs.Common.{◌≡◌, ℕ, suc, ◌+◌, ◌-◌, ◌*◌, ◌<◌, ◌≤◌, List, [], ◌∷◌, ◌++◌, map, length, get_or, take, drop, set, sym, ap, ◌∙◌, ap₂, mul-le-mul_right, suc-mul, add-mul, one-mul, zero-add, arith}
+use Rattle.std.proofs.Common.{◌≡◌, ℕ, suc, ◌+◌, ◌-◌, ◌*◌, ◌<◌, ◌≤◌, List, [], ◌∷◌, ◌++◌, map, length, take, drop, sym, ap, ◌∙◌, ap₂, mul-le-mul_right, suc-mul, add-mul, one-mul, zero-add, arith}
 use borrow.Rule.Slice.PartMut.{put_mid}
 use Rattle.std.specs.List.{flat_map}
 use Rattle.std.proofs.lemmas.List.FromFn.{length-map-range_with_len, map-range_with_len_more}
-use Rattle.std.proofs.lemmas.List.Edits.{fill_by_more}
 use Rattle.std.proofs.lemmas.List.{map-id, flat_map_more, length-take, length-drop, length-append, take-append-drop, append_assoc}
 use Rattle.std.proofs.lemmas.Slice.{take-put_mid, drop-put_mid}
 use Rattle.contexts.specs.Book.{presence_word, book_words}
 use Rattle.contexts.specs.Relation.{Relation}
 use Rattle.lattice.specs.Sets.{range}
 use Rattle.drafts.specs.Freezing.{frozen}
-
-pub fill_next : (f : ℕ → ℕ) (xs : List ℕ) (i y : ℕ) → y ≡ f i → i < length xs → ((k : ℕ) → k < i → get_or xs k 0 ≡ f k) → (k : ℕ) → k < i + 1 → get_or (set xs i y) k 0 ≡ f k
-fill_next f xs i y e l h k m = ap (λ (v : ℕ). get_or (set xs i v) k 0) e ∙ fill_by_more f xs i 0 l h k m
 
 pub range_more : (n : ℕ) → range (n + 1) ≡ range n ++ n ∷ []
 range_more n =

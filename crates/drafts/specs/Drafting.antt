@@ -1,9 +1,9 @@
 use Rattle.std.specs.Prelude.{ℕ, not, List, [], ◌∷◌, ◌++◌, length, Some, None, Option, nat_lt}
+use Rattle.std.specs.List.{list_any}
 use Rattle.records.specs.Questions.{ask}
 use Rattle.records.specs.Refusals.{Refusal}
 use Rattle.records.specs.declared.kinds.condition.Condition.{Condition}
 use Rattle.drafts.specs.Comparisons.{comparison_of, same_comparison}
-use Rattle.drafts.specs.Conditions.{some}
 use Rattle.drafts.specs.declared.comparison.Comparison.{Comparison}
 use Rattle.drafts.specs.declared.draft.DraftFault.{DraftFault}
 use Rattle.drafts.specs.declared.draft.DraftFault.TheVariants.{UnknownKind, UnknownLeft, UnknownRight, Repeated, Full}
@@ -13,7 +13,7 @@ abbrev pub comparison_fault : ℕ → ℕ → List Comparison → Comparison →
 comparison_fault left_properties right_properties cs c =
     ask (nat_lt c.left left_properties) (15, 0)
     (ask (nat_lt c.right right_properties) (16, 0)
-    (ask (not (some (same_comparison c) cs)) (17, 0)
+    (ask (not (list_any (same_comparison c) cs)) (17, 0)
     (ask (nat_lt (length cs) 64) (18, 0)
     None)))
 

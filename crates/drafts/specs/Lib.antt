@@ -7,4 +7,3 @@ pub mod Laws
 pub mod Live
 pub mod Preparing
 pub mod Soundness
-pub mod Codes

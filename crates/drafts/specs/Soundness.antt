@@ -1,6 +1,7 @@
--- The relation of two sound tables is sound.
-use Rattle.std.specs.Prelude.{◌≡◌, ℕ, zero, suc, ◌≤◌, Bool, false, List, [], ◌∷◌, length, refl}
+-- The relation of two sound tables is sound. These lemmas stand in specs/ and not in proofs/, since src/ cites the last of them.
+use Rattle.std.specs.Prelude.{◌≡◌, ℕ, zero, suc, ◌≤◌, Bool, false, List, [], ◌∷◌, length, Vec, vec_items, vec_len, refl}
 use Rattle.std.proofs.Common.{sym, ap, ◌∙◌, arith, add-one}
+use Rattle.std.specs.declared.alloc.Global.{Global}
 use Rattle.contexts.specs.Relation as relation
 use Rattle.lattice.specs.Sets.{code_of}
 use Rattle.lattice.proofs.Conditions.{code_of_below, code_of_more}
@@ -11,7 +12,10 @@ use Rattle.drafts.specs.Comparisons.{agree}
 use Rattle.drafts.specs.Conditions.{shares}
 use Rattle.drafts.specs.Live.{holds_at, live}
 use Rattle.drafts.specs.declared.comparison.Comparison.{Comparison}
-use Rattle.drafts.specs.Codes.{code_alike}
+
+-- A code depends on its tests alone.
+pub code_alike : (k : ℕ) (f g : ℕ → Bool) → ((i : ℕ) → f i ≡ g i) → code_of k f ≡ code_of k g
+code_alike k f g h = ap (code_of k) (λ i n. h n i)
 
 code_none : (k : ℕ) → code_of k (λ _. false) ≡ 0
 unfolding code_of
@@ -59,3 +63,7 @@ live_sound l r cs left right few =
       left_absent_none = λ s t e. nothing_holds (length cs) (holds_at l r cs s t) (left_absent l r s t (λ p. left.empty_if_absent s p e) cs);
       right_absent_none = λ s t e. nothing_holds (length cs) (holds_at l r cs s t) (right_absent l r s t (λ q. right.empty_if_absent t q e) cs);
     }
+
+-- what a draft keeps is what that asks
+pub draft_sound : (l r : Meaning) (v : Vec Comparison Global) → Sound l → Sound r → vec_len v ≤ 64 → relation.Sound (live l r (vec_items v))
+draft_sound l r v left right few = live_sound l r (vec_items v) left right (omega (arith, few, v.ok.0))

@@ -1,63 +1,37 @@
-// Two lists of values, compared as sets.
+// Two lists of values, compared as sets. Loops, since of `any` and `all` over a range the closure's answer of a table is lost to the proof.
+// Lists in memory have loops of their own (draft/lists.rt): hot loops run over plain slices.
 ghost use Rattle.std.specs.Prelude.{◌≡◌};
 ghost use Rattle.drafts.specs.Conditions.{shares, within, equals};
 
-use tables::{Table, contains};
+use tables::{Table, ValueList};
 
-// Whether some value of `left` at subject `s` and property `p` is one of `right` at subject `t` and property `q`.
-pub fn share<L: Table, R: Table>(
-    left: &L,
-    s: usize,
-    p: usize,
-    right: &R,
-    t: usize,
-    q: usize,
-) -> bool
-    ensures { result ≡ shares ((L.Table.meaning left.now).values s p) ((R.Table.meaning right.now).values t q) }
+// Whether some value of one list is in the other.
+pub fn share<L: Table, R: Table>(left: &ValueList<'_, L>, right: &ValueList<'_, R>) -> bool
+    ensures { result ≡ shares ((L.Table.meaning left.now.table.now).values left.now.subject left.now.property) ((R.Table.meaning right.now.table.now).values right.now.subject right.now.property) }
 {
-    let mut i = 0;
-    while let Some(v) = left.value(s, p, i) {
-        if contains(right, t, q, v) {
+    for i in 0..left.len() {
+        if right.contains(left.get(i).unwrap()) {
             return true;
         }
-        i += 1;
     }
     false
 }
 
 // Whether both lists have the same values, and at least one.
-pub fn equal<L: Table, R: Table>(
-    left: &L,
-    s: usize,
-    p: usize,
-    right: &R,
-    t: usize,
-    q: usize,
-) -> bool
-    ensures { result ≡ equals ((L.Table.meaning left.now).values s p) ((R.Table.meaning right.now).values t q) }
+pub fn equal<L: Table, R: Table>(left: &ValueList<'_, L>, right: &ValueList<'_, R>) -> bool
+    ensures { result ≡ equals ((L.Table.meaning left.now.table.now).values left.now.subject left.now.property) ((R.Table.meaning right.now.table.now).values right.now.subject right.now.property) }
 {
-    left.count(s, p) > 0
-        && lie_within(left, s, p, right, t, q)
-        && lie_within(right, t, q, left, s, p)
+    left.len() > 0 && lie_within(left, right) && lie_within(right, left)
 }
 
-// Whether every value of the first list is one of the second.
-fn lie_within<L: Table, R: Table>(
-    left: &L,
-    s: usize,
-    p: usize,
-    right: &R,
-    t: usize,
-    q: usize,
-) -> bool
-    ensures { result ≡ within ((L.Table.meaning left.now).values s p) ((R.Table.meaning right.now).values t q) }
+// Whether every value of the first list is in the second.
+fn lie_within<L: Table, R: Table>(left: &ValueList<'_, L>, right: &ValueList<'_, R>) -> bool
+    ensures { result ≡ within ((L.Table.meaning left.now.table.now).values left.now.subject left.now.property) ((R.Table.meaning right.now.table.now).values right.now.subject right.now.property) }
 {
-    let mut i = 0;
-    while let Some(v) = left.value(s, p, i) {
-        if !contains(right, t, q, v) {
+    for i in 0..left.len() {
+        if !right.contains(left.get(i).unwrap()) {
             return false;
         }
-        i += 1;
     }
     true
 }

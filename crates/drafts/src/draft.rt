@@ -1,9 +1,10 @@
 // Drafts: two tables, and the conditions that are to hold between them.
-ghost use Rattle.std.specs.Prelude.{◌≤◌, vec_len, vec_capacity};
+ghost use Rattle.std.specs.Prelude.{◌≡◌, ◌≤◌, vec_len, vec_capacity};
 ghost use Rattle.drafts.specs.Drafting.{draft_refusal};
+ghost use Rattle.drafts.specs.declared.draft.DraftFault.{DraftFault};
 
 use crate::comparison::Comparison;
-use records::Fault;
+use records::{Fault, UnknownKind};
 
 mod book;
 mod calls;
@@ -40,6 +41,14 @@ pub enum DraftFault {
     UnknownRight,
     Repeated,
     Full,
+}
+
+impl From<UnknownKind> for DraftFault {
+    ghost from_gives = { λ _ fault. fault ≡ DraftFault.UnknownKind };
+
+    fn from(_unknown: UnknownKind) -> DraftFault {
+        DraftFault::UnknownKind
+    }
 }
 
 impl Fault for DraftFault {

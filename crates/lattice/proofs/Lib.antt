@@ -3,6 +3,7 @@ pub mod Bits
 pub mod Closures
 pub mod Conditions
 pub mod Filters
+pub mod FindMap
 pub mod Meets
 pub mod Order
 pub mod Raising

@@ -1,9 +1,6 @@
 -- The running meet over a list of codes is the widening.
-use Rattle.std.proofs.Common.{◌≡◌, ℕ, ◌+◌, ◌^◌, ◌<◌, ◌≤◌, Bool, true, false, cond, ◌&&◌, eqb, List, [], ◌∷◌, length, get_or, take, fold, filter, sym, refl, ap, ◌∙◌, le_trans, le_refl, lt_of_le_of_lt}
+use Rattle.std.proofs.Common.{◌≡◌, ℕ, ◌^◌, ◌<◌, ◌≤◌, Bool, true, false, cond, ◌&&◌, eqb, List, [], ◌∷◌, fold, filter, sym, refl, ap, ◌∙◌, le_trans, le_refl, lt_of_le_of_lt}
 use lib.Bits.{bit_and, and_le_l, and_comm}
-use Rattle.std.proofs.lemmas.List.{take_all}
-use Rattle.std.proofs.lemmas.List.Sums.{fold_more}
-use Rattle.std.proofs.lemmas.Bool.{cond-true, cond-false, eq-eqb, ne_eqb}
 use Rattle.lattice.specs.Sets.{every, has, whole, includes}
 use Rattle.lattice.specs.Widening.{including, widening, running_meet}
 use Rattle.lattice.proofs.Closures.{has_widening, widening_below}
@@ -59,25 +56,3 @@ running_widens k codes x h =
     ∙ ap (λ (b : Bool). b && every (λ c. has k c i) (filter (λ c. eqb (bit_and c x) x) codes)) (has_whole k i l)
     ∙ ap (λ (ds : List ℕ). every (λ c. has k c i) ds) (kept_including k codes x h)
     ∙ sym (has_widening k codes x i l))
-
--- The start, a turn and the end of the loop.
-pub running_none : (start x : ℕ) → running_meet start [] x ≡ start
-unfolding running_meet
-running_none start x = refl
-
-running_more : (start : ℕ) (codes : List ℕ) (x i : ℕ) → i < length codes → running_meet start (take (i + 1) codes) x ≡ cond (eqb (bit_and (get_or codes i 0) x) x) (bit_and (running_meet start (take i codes) x) (get_or codes i 0)) (running_meet start (take i codes) x)
-unfolding running_meet
-running_more start codes x i h = fold_more (λ all c. cond (eqb (bit_and c x) x) (bit_and all c) all) start codes i 0 h
-
-pub running_more_yes : (start : ℕ) (codes : List ℕ) (x i : ℕ) → i < length codes → bit_and (get_or codes i 0) x ≡ x → running_meet start (take (i + 1) codes) x ≡ bit_and (running_meet start (take i codes) x) (get_or codes i 0)
-running_more_yes start codes x i h e =
-    running_more start codes x i h
-    ∙ cond-true (eqb (bit_and (get_or codes i 0) x) x) (bit_and (running_meet start (take i codes) x) (get_or codes i 0)) (running_meet start (take i codes) x) (eq-eqb (bit_and (get_or codes i 0) x) x e)
-
-pub running_more_no : (start : ℕ) (codes : List ℕ) (x i : ℕ) → i < length codes → (bit_and (get_or codes i 0) x ≡ x → ⊥) → running_meet start (take (i + 1) codes) x ≡ running_meet start (take i codes) x
-running_more_no start codes x i h e =
-    running_more start codes x i h
-    ∙ cond-false (eqb (bit_and (get_or codes i 0) x) x) (bit_and (running_meet start (take i codes) x) (get_or codes i 0)) (running_meet start (take i codes) x) (ne_eqb (bit_and (get_or codes i 0) x) x e)
-
-pub running_all : (start : ℕ) (codes : List ℕ) (x i : ℕ) → length codes ≤ i → running_meet start (take i codes) x ≡ running_meet start codes x
-running_all start codes x i h = ap (λ (ds : List ℕ). running_meet start ds x) (take_all i codes h)

@@ -1,5 +1,5 @@
 -- The search for the first accepted trial, as code computes it with shifts in words of w bits.
-use Rattle.std.proofs.Common.{◌≡◌, ℕ, ◌+◌, ◌*◌, ◌/◌, ◌%◌, ◌^◌, ◌<◌, ◌≤◌, List, Some, None, sym, ap, ◌∙◌, le_trans, shr-shr}
+use Rattle.std.proofs.Common.{◌≡◌, ℕ, ◌+◌, ◌*◌, ◌/◌, ◌%◌, ◌^◌, ◌<◌, ◌≤◌, List, Some, None, Option, MatchOption, sym, ap, ◌∙◌, arith, shr-shr}
 use Rattle.lattice.specs.Closed.{next_closed, trial, Accepted}
 use Rattle.lattice.specs.Widening.{widening}
 use Rattle.lattice.proofs.Bits.{zero_bit}
@@ -19,9 +19,8 @@ passed_accepted k codes x j t l e q s =
 pub failed_refused : (k : ℕ) (codes : List ℕ) (x j t : ℕ) → t ≡ trial k codes x j → (t / 2 ^ j / 2 ≡ x / 2 ^ j / 2 → ⊥) → Accepted k codes x j → ⊥
 failed_refused k codes x j t q n a = n (shr-shr t j 1 ∙ ap (λ (v : ℕ). v / 2 ^ (j + 1)) q ∙ a.kept ∙ sym (shr-shr x j 1))
 
--- The two ends of the search.
-pub found_next : (k : ℕ) (codes : List ℕ) (x j t : ℕ) → x < 2 ^ k → ((i : ℕ) → i < j → Accepted k codes x i → ⊥) → Accepted k codes x j → t ≡ trial k codes x j → Some t ≡ next_closed k codes x
-found_next k codes x j t h none a q = ap (λ (v : ℕ). Some v) q ∙ sym (first_is_next k codes x j h (record { accepted = a; none_lower = none }))
-
-pub found_last : (k : ℕ) (codes : List ℕ) (x j : ℕ) → x < 2 ^ k → k ≤ j → ((i : ℕ) → i < j → Accepted k codes x i → ⊥) → None ≡ next_closed k codes x
-found_last k codes x j h l none = sym (none_is_last k codes x h (λ i a. none i (le_trans a.place l) a))
+-- What the search came to is the next closed code.
+pub search_ended : (k : ℕ) (codes : List ℕ) (x : ℕ) → x < 2 ^ k → (r : Option ℕ) → MatchOption r ((j : ℕ) → 0 ≤ j → j < k → Accepted k codes x j → ⊥) (λ t. (j : ℕ) × (0 ≤ j) × (j < k) × (Accepted k codes x j × (t ≡ trial k codes x j)) × ((i : ℕ) → 0 ≤ i → i < j → Accepted k codes x i → ⊥)) → r ≡ next_closed k codes x
+search_ended k codes x h None none = sym (none_is_last k codes x h (λ j a. none j (omega arith) a.place a))
+search_ended k codes x h (Some t) (j, _, _, at, none) =
+    ap (λ (v : ℕ). Some v) at.1 ∙ sym (first_is_next k codes x j h (record { accepted = at.0; none_lower = λ i l. none i (omega arith) l }))

@@ -9,14 +9,15 @@ use crate::width::Width;
 pub fn widen(codes: &[u64], width: Width, x: u64) -> u64
     ensures { result ≡ widening_of width.conditions codes.now x }
 {
-    let mut all = width.whole();
-    let asked = x & all;
-    for code in codes {
+    let whole = width.whole();
+    let asked = x & whole;
+    codes.iter().fold(whole, |all, code| {
         if *code & asked == asked {
-            all &= *code;
+            all & *code
+        } else {
+            all
         }
-    }
-    all
+    })
 }
 
 // Widening is a closure, computed by the running meet; of the codes only their set matters.

@@ -25,6 +25,7 @@ impl Width {
     pub fn whole(self) -> u64
         ensures { result ≡ whole_of self.conditions }
     {
+        // A shift by all 64 bits is none that a `u64` has.
         if self.conditions == 64 {
             u64::MAX
         } else {

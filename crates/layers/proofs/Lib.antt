@@ -1,3 +1,3 @@
-pub mod FoldingSteps
+pub mod FoldingSearch
 pub mod Growth
 pub mod Settling

@@ -1,4 +1,4 @@
--- The folding and the pick layer of a sound meaning are sound.
+-- The folding and the pick layer of a sound meaning are sound. It stands here and not in proofs/: the impls of `Table` cite it, and src/ can cite nothing of its own crate's proofs/.
 use Rattle.std.specs.Prelude.{◌≡◌, ℕ, ◌^◌, ◌<◌, ◌≤◌, true, List, [], ◌∷◌, map, length, Some, None, Option, ◌==◌, nat_lt, refl}
 use Rattle.std.proofs.Common.{ap, arith}
 use Rattle.std.specs.List.{AllByRecursion, slice_get}
@@ -10,6 +10,9 @@ use Rattle.layers.specs.declared.folding_list.Folding.{Folding}
 use Rattle.layers.specs.Foldings.{becomes, four_byte_tos}
 use Rattle.layers.specs.Layers.{folded_by, picked_by, list_at_pick}
 use Rattle.tables.specs.Meaning.{Meaning, Sound}
+use Rattle.layers.specs.Held.{foldings, picked}
+use Rattle.layers.specs.declared.folding_list.FoldingList.{FoldingList}
+use Rattle.layers.specs.declared.picks.Picks.{Picks}
 
 pub becomes_four_byte : (es : List Folding) (v : ℕ) → four_byte_tos es ≡ true → v < 2 ^ 32 → becomes es v < 2 ^ 32
 becomes_four_byte [] v h l = l
@@ -46,3 +49,10 @@ picked_sound t ps few sound =
       short_lists = λ s j. at_pick t s (λ xs. length xs ≤ 65536) (omega arith) (λ p. sound.short_lists s p) (slice_get ps j);
       four_byte_values = λ s j. at_pick t s (AllByRecursion (λ v. v < 2 ^ 32)) tt (λ p. sound.four_byte_values s p) (slice_get ps j);
     }
+
+-- what a folding list and picks keep is what those ask
+pub folding_list_sound : (t : Meaning) (l : FoldingList) → Sound t → Sound (folded_by t (foldings l))
+folding_list_sound t l sound = folded_sound t (foldings l) l.narrow sound
+
+pub picks_sound : (t : Meaning) (ps : Picks) → Sound t → Sound (picked_by t (picked ps))
+picks_sound t ps sound = picked_sound t (picked ps) (omega (arith, ps.few, ps.numbers.ok.0)) sound

@@ -2,7 +2,7 @@
 ghost use Rattle.std.specs.Prelude.{◌≡◌};
 ghost use Rattle.layers.specs.Held.{foldings};
 ghost use Rattle.layers.specs.Layers.{folded_by};
-ghost use Rattle.layers.specs.Soundness.{folded_sound};
+ghost use Rattle.layers.specs.Soundness.{folding_list_sound};
 
 use crate::folding_list::FoldingList;
 use tables::Table;
@@ -26,15 +26,14 @@ impl<T: Table> FoldingLayer<T> {
     pub fn into_below(self) -> T
         ensures { result ≡ self.below }
     {
-        let FoldingLayer { below, list: _ } = self;
-        below
+        self.below
     }
 }
 
 impl<T: Table> Table for FoldingLayer<T> {
     ghost meaning = { λ t. folded_by (T.Table.meaning t.below) (foldings t.list) };
 
-    ghost sound = { λ t. folded_sound (T.Table.meaning t.below) (foldings t.list) t.list.narrow (T.Table.sound t.below) };
+    ghost sound = { λ t. folding_list_sound (T.Table.meaning t.below) t.list (T.Table.sound t.below) };
 
     fn subjects(&self) -> usize {
         self.below.subjects()
@@ -53,9 +52,6 @@ impl<T: Table> Table for FoldingLayer<T> {
     }
 
     fn value(&self, s: usize, p: usize, i: usize) -> Option<u32> {
-        match self.below.value(s, p, i) {
-            Some(v) => Some(self.list.becomes(v)),
-            None => None,
-        }
+        self.below.value(s, p, i).map(|v| self.list.becomes(v))
     }
 }

@@ -3,7 +3,7 @@ ghost use Rattle.std.specs.Prelude.{◌≡◌};
 ghost use Rattle.layers.specs.Layers.{of_kind};
 ghost use Rattle.std.proofs.Common.{rules};
 
-use tables::{Table, contains};
+use tables::{Table, ValueList};
 
 // A table of those subjects below whose list at `property` has `value`.
 #[derive(Drop)]
@@ -30,18 +30,14 @@ impl<T: Table> KindLayer<T> {
     pub fn into_below(self) -> T
         ensures { result ≡ self.below }
     {
-        let KindLayer {
-            below,
-            property: _,
-            value: _,
-        } = self;
-        below
+        self.below
     }
 }
 
 impl<T: Table> Table for KindLayer<T> {
     ghost meaning = { λ t. of_kind (T.Table.meaning t.below) t.property t.value };
 
+    // The search stands here, as src/ can cite nothing of its own crate's proofs/.
     ghost sound = { Prim.search rules };
 
     fn subjects(&self) -> usize {
@@ -53,7 +49,12 @@ impl<T: Table> Table for KindLayer<T> {
     }
 
     fn is_present(&self, s: usize) -> bool {
-        self.below.is_present(s) && contains(&self.below, s, self.property, self.value)
+        let list = ValueList {
+            table: &self.below,
+            subject: s,
+            property: self.property,
+        };
+        self.below.is_present(s) && list.contains(self.value)
     }
 
     fn count(&self, s: usize, p: usize) -> usize {

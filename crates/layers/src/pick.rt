@@ -2,8 +2,7 @@
 ghost use Rattle.std.specs.Prelude.{◌≡◌};
 ghost use Rattle.layers.specs.Held.{picked};
 ghost use Rattle.layers.specs.Layers.{picked_by};
-ghost use Rattle.std.proofs.Common.{arith};
-ghost use Rattle.layers.specs.Soundness.{picked_sound};
+ghost use Rattle.layers.specs.Soundness.{picks_sound};
 
 use crate::picks::Picks;
 use tables::Table;
@@ -27,15 +26,14 @@ impl<T: Table> PickLayer<T> {
     pub fn into_below(self) -> T
         ensures { result ≡ self.below }
     {
-        let PickLayer { below, picks: _ } = self;
-        below
+        self.below
     }
 }
 
 impl<T: Table> Table for PickLayer<T> {
     ghost meaning = { λ t. picked_by (T.Table.meaning t.below) (picked t.picks) };
 
-    ghost sound = { λ t. picked_sound (T.Table.meaning t.below) (picked t.picks) (omega arith) (T.Table.sound t.below) };
+    ghost sound = { λ t. picks_sound (T.Table.meaning t.below) t.picks (T.Table.sound t.below) };
 
     fn subjects(&self) -> usize {
         self.below.subjects()
@@ -50,16 +48,14 @@ impl<T: Table> Table for PickLayer<T> {
     }
 
     fn count(&self, s: usize, p: usize) -> usize {
-        match self.picks.at(p) {
-            Some(below) => self.below.count(s, below),
-            None => 0,
-        }
+        self.picks
+            .at(p)
+            .map_or(0, |below| self.below.count(s, below))
     }
 
     fn value(&self, s: usize, p: usize, i: usize) -> Option<u32> {
-        match self.picks.at(p) {
-            Some(below) => self.below.value(s, below, i),
-            None => None,
-        }
+        self.picks
+            .at(p)
+            .and_then(|below| self.below.value(s, below, i))
     }
 }

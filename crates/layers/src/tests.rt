@@ -8,7 +8,7 @@ use super::pick::PickLayer;
 use crate::folding_list::FoldingList;
 use crate::picks::Picks;
 use std::test::Fail;
-use tables::{Table, contains};
+use tables::{Table, ValueList};
 
 // Three subjects with two properties: subject s has s and 10 + p at property p.
 #[derive(Drop)]
@@ -75,8 +75,13 @@ fn pile_of_all_layers(rt: HostRuntime) -> Result<(), Fail> {
     assert_eq!(rt; pile.count(2, 4), 0);
     assert_eq!(rt; pile.count(1, 0), 0);
     assert_eq!(rt; pile.value(1, 0, 0), None);
-    assert!(rt; contains(&pile, 2, 0, 41));
-    assert!(rt; !contains(&pile, 2, 0, 11));
+    let list = ValueList {
+        table: &pile,
+        subject: 2,
+        property: 0,
+    };
+    assert!(rt; list.contains(41));
+    assert!(rt; !list.contains(11));
     let below = pile.into_below().into_below().into_below();
     assert_eq!(rt; below.value(1, 1, 1), Some(11));
     Ok(())

@@ -2,9 +2,7 @@
 #![tactic(auto)]
 
 use records::Kind;
-use report::{
-    OpenError, Source, count_kind, draft_line, fault_line, open_draft, open_register, register_line,
-};
+use report::{Source, accepted, count_kind, draft_line, open_draft, open_register, register_line};
 use std::io::Read;
 use std::{fs, io};
 use tables::Table;
@@ -12,7 +10,7 @@ use tables::Table;
 // One byte more than a file may have shows that it is too long.
 const ENOUGH: u64 = report::file::LONGEST as u64 + 1;
 
-// A file that does not open counts as empty.
+// A file that does not open counts as empty. Both programs have this: of a file's bytes no call can promise anything, so it is no call of `report`.
 fn contents(rt: &HostRuntime, path: &str) -> io::Result<Vec<u8>> {
     let mut bytes = Vec::new(rt.alloc());
     let Ok(file) = fs::open(rt, path) else {
@@ -20,22 +18,6 @@ fn contents(rt: &HostRuntime, path: &str) -> io::Result<Vec<u8>> {
     };
     file.take(ENOUGH).read_to_end(&mut bytes)?;
     Ok(bytes)
-}
-
-// What was opened; a refused file prints its fault line and gives nothing.
-fn accepted<T>(
-    rt: &HostRuntime,
-    source: Source,
-    opened: Result<T, OpenError>,
-) -> io::Result<Option<T>> {
-    match opened {
-        Ok(records) => Ok(Some(records)),
-        Err(OpenError::Fault(fault)) => {
-            rt.print(fault_line(rt.alloc(), source, &fault)?)?;
-            Ok(None)
-        }
-        Err(OpenError::NoMemory) => Err(std::alloc::AllocError.into()),
-    }
 }
 
 fn main(rt: HostRuntime) -> io::Result<()> {

@@ -1,9 +1,9 @@
 -- The loop of a run: each call is answered as its level says, and a level past the end stays there.
-use Rattle.std.proofs.Common.{◌≡◌, ℕ, ◌+◌, min, List, [], ◌∷◌, ◌++◌, map, length, take, drop, sym, ap, ◌∙◌, subst, ⊎_elim, arith}
+use Rattle.std.proofs.Common.{◌≡◌, ℕ, ◌+◌, min, List, [], ◌∷◌, ◌++◌, map, sym, ap, ◌∙◌, subst, ⊎_elim, arith}
 use Rattle.std.specs.Vec.Iter.{into_iter_items, into_iter_len}
 use Rattle.std.specs.declared.alloc.Global.{Global}
 use Rattle.std.specs.declared.vec.IntoIter.{IntoIter}
-use Rattle.std.proofs.lemmas.List.{take_at, append_assoc, append-nil, map_push, nil_from_length}
+use Rattle.std.proofs.lemmas.List.{append_assoc, map_push, nil_from_length}
 use Rattle.std.proofs.lemmas.Bool.{cases_lt}
 use Rattle.contexts.specs.Relation.{Relation}
 use Rattle.listings.specs.Calls.{Ask, Reply, with_space}
@@ -16,22 +16,6 @@ use Rattle.listings.specs.declared.call.Call.{Call}
 use Rattle.listings.proofs.Keeping.{replies_keep}
 use Rattle.listings.proofs.Running.{replies_past}
 use Rattle.listings.proofs.Settling.{kept_alike}
-
--- what a buffer holds once a slice over all of it was filled with ys
-pub refilled : (n : ℕ) (xs ys zs : List ℕ) → n ≡ length xs → zs ≡ xs → length ys ≡ length zs → take n (ys ++ drop (length ys) xs) ≡ ys
-refilled n xs ys zs e f h = take_at ys (drop (length ys) xs) n (h ∙ ap length f ∙ sym e)
-
--- what a call and its answer come to, as the definitions speak of them
-pub record Answers (c : Relation) (w v : ℕ) (call : Call) (answer : Reply) : Type 0 where
-  pub level : v ≡ min (w + with_space (ask_of call)) (candidate_count c + 1)
-  pub reply : answer ≡ reply c w (ask_of call)
-
-pub answers : (c : Relation) (w v : ℕ) (call : Call) (asked : Ask) (told answer : Reply) → ask_of call ≡ asked → v ≡ min (w + with_space asked) (candidate_count c + 1) → told ≡ reply c w asked → answer ≡ told → Answers c w v call answer
-answers c w v call asked told answer is level by same =
-    record {
-      level = level ∙ ap (λ (a : Ask). min (w + with_space a) (candidate_count c + 1)) (sym is);
-      reply = same ∙ by ∙ ap (reply c w) (sym is);
-    }
 
 -- a level held at one past the end answers as any beyond
 replies_capped : (c : Relation) (w : ℕ) (asks : List Ask) → replies c (min w (candidate_count c + 1)) asks ≡ replies c w asks
@@ -61,14 +45,6 @@ run_more x c w v done told answer call before rest all same by level pushed next
     ∙ ap (λ (rs : List Reply). map reply_of done ++ reply c w (ask_of call) ∷ rs) (ap (λ (n : ℕ). replies c n asks) there ∙ replies_capped c (w + with_space (ask_of call)) asks)
     ∙ ap (λ (cs : List Call). map reply_of done ++ replies c w (map ask_of cs)) (sym next)
     ∙ so_far
-
--- no call is left
-pub run_all : (c : Relation) (w v : ℕ) (done : List Answer) (left begun calls : List Call) → left ≡ [] → begun ≡ calls → map reply_of done ++ replies c v (map ask_of left) ≡ replies c w (map ask_of begun) → map reply_of done ≡ replies c w (map ask_of calls)
-run_all c w v done left begun calls none is so_far =
-    sym (append-nil (map reply_of done))
-    ∙ ap (λ (cs : List Call). map reply_of done ++ replies c v (map ask_of cs)) (sym none)
-    ∙ so_far
-    ∙ ap (λ (cs : List Call). replies c w (map ask_of cs)) is
 
 pub none_left : (it : IntoIter Call Global) → into_iter_len it ≡ 0 → into_iter_items it ≡ []
 none_left it h = nil_from_length (into_iter_items it) (sym it.rest.ok.0 ∙ h)

@@ -1,48 +1,16 @@
 -- One pass over coded pairs: the links of a code, and marks for their subjects.
-use Rattle.std.proofs.Common.{◌≡◌, ℕ, zero, suc, ◌+◌, ◌<◌, ◌≤◌, Bool, true, false, cond, not, ◌||◌, eqb, ◌≢◌, List, [], ◌∷◌, ◌++◌, map, length, get_or, take, set, replicate, filter, sym, refl, ap, ◌∙◌, subst, ⊎_elim, arith, length-append, length-set, get_or-set_other, get_or-set_same}
+use Rattle.std.proofs.Common.{◌≡◌, ℕ, zero, suc, ◌<◌, ◌≤◌, Bool, true, false, cond, eqb, List, [], ◌∷◌, map, length, get_or, take, replicate, filter, refl, ap, ◌∙◌, subst, arith}
 use lib.Bits.{bit_and}
 use Rattle.std.proofs.lemmas.List.FromFn.{fill_by_all}
-use Rattle.std.proofs.lemmas.List.Elements.{filter-append, filter_more}
-use Rattle.std.proofs.lemmas.List.{append-nil, take_all}
+use Rattle.std.proofs.lemmas.List.{take_all}
 use Rattle.std.proofs.lemmas.List.Sums.{length-filter, count_by-le-length}
-use Rattle.std.proofs.lemmas.Bool.{cases_eq, eq-eqb, ne_eqb}
 use Rattle.contexts.specs.declared.coded_pair.CodedPair.{CodedPair}
-use Rattle.lattice.specs.Sets.{range, empty}
-use Rattle.listings.specs.Copied.{Within, linking, is_marked, marked_count, marks_set, left_of, right_of}
+use Rattle.lattice.specs.Sets.{range}
+use Rattle.listings.specs.Copied.{linking, is_marked, marked_count, marks_set, left_of, right_of}
 
 -- what stands past the end of coded pairs
 abbrev pub no_pair : CodedPair
 no_pair = record { left = 0; right = 0; code = 0 }
-
-pub linking_more : (x : ℕ) (ps : List CodedPair) (i : ℕ) → i < length ps → bit_and (get_or ps i no_pair).code x ≡ x → linking x (take (i + 1) ps) ≡ linking x (take i ps) ++ get_or ps i no_pair ∷ []
-linking_more x ps i h e =
-    let p = get_or ps i no_pair in
-    filter_more (λ (q : CodedPair). eqb (bit_and q.code x) x) ps i no_pair h
-    ∙ ap (λ (b : Bool). linking x (take i ps) ++ cond b (p ∷ []) []) (eq-eqb (bit_and p.code x) x e)
-
-pub linking_less : (x : ℕ) (ps : List CodedPair) (i : ℕ) → i < length ps → bit_and (get_or ps i no_pair).code x ≢ x → linking x (take (i + 1) ps) ≡ linking x (take i ps)
-linking_less x ps i h e =
-    let p = get_or ps i no_pair in
-    filter_more (λ (q : CodedPair). eqb (bit_and q.code x) x) ps i no_pair h
-    ∙ ap (λ (b : Bool). linking x (take i ps) ++ cond b (p ∷ []) []) (ne_eqb (bit_and p.code x) x e)
-    ∙ append-nil (linking x (take i ps))
-
--- one more pair marks its subject
-marked_push : (side : CodedPair → ℕ) (ps : List CodedPair) (p : CodedPair) (k : ℕ) → is_marked side (ps ++ p ∷ []) k ≡ is_marked side ps k || eqb (side p) k
-marked_push side ps p k = ap (λ (v : List CodedPair). not (empty v)) (filter-append (λ q. eqb (side q) k) ps (p ∷ [])) ∙ go (filter (λ q. eqb (side q) k) ps) (eqb (side p) k)
-  where
-    go : (qs : List CodedPair) (b : Bool) → not (empty (qs ++ cond b (p ∷ []) [])) ≡ not (empty qs) || b
-    go [] true = refl
-    go [] false = refl
-    go (q ∷ qs) b = refl
-
-or_true : (b : Bool) → b || true ≡ true
-or_true true = refl
-or_true false = refl
-
-or_false : (b : Bool) → b || false ≡ b
-or_false true = refl
-or_false false = refl
 
 -- marks that tell which subjects some pairs have
 abbrev pub Marks : (CodedPair → ℕ) → List CodedPair → List Bool → Type 0
@@ -55,19 +23,6 @@ marks_none side marks e k h = ap (λ (ms : List Bool). get_or ms k false) e ∙ 
     get_or_replicate zero k = refl
     get_or_replicate (suc n) zero = refl
     get_or_replicate (suc n) (suc k) = get_or_replicate n k
-
-pub marks_more : (side : CodedPair → ℕ) (ps : List CodedPair) (p : CodedPair) (marks : List Bool) → side p < length marks → Marks side ps marks → Marks side (ps ++ p ∷ []) (set marks (side p) true)
-marks_more side ps p marks inside before k h =
-    ⊎_elim
-    (λ (e : k ≡ side p).
-    ap (λ (n : ℕ). get_or (set marks (side p) true) n false) e
-    ∙ get_or-set_same marks (side p) true false inside
-    ∙ sym (marked_push side ps p k ∙ ap (λ (b : Bool). is_marked side ps k || b) (eq-eqb (side p) k (sym e)) ∙ or_true (is_marked side ps k)))
-    (λ (n : k ≡ side p → ⊥).
-    get_or-set_other marks (side p) k true false n
-    ∙ before k h
-    ∙ sym (marked_push side ps p k ∙ ap (λ (b : Bool). is_marked side ps k || b) (ne_eqb (side p) k (λ e. n (sym e))) ∙ or_false (is_marked side ps k)))
-    (cases_eq k (side p))
 
 set_counted : (f : ℕ → Bool) (xs : List ℕ) → marks_set (map f xs) ≡ length (filter f xs)
 set_counted f [] = refl
@@ -95,26 +50,6 @@ Counted x ps i links lefts rights =
 
 pub counted_none : (x : ℕ) (ps : List CodedPair) (lefts rights : List Bool) → lefts ≡ replicate 2048 false → rights ≡ replicate 2048 false → length lefts ≡ 2048 → length rights ≡ 2048 → Counted x ps 0 0 lefts rights
 counted_none x ps lefts rights el er nl nr = (refl, nl, nr, marks_none left_of lefts el, marks_none right_of rights er)
-
--- a link more
-pub counted_more : (x : ℕ) (ps : List CodedPair) (i links : ℕ) (lefts rights : List Bool) → i < length ps → bit_and (get_or ps i no_pair).code x ≡ x → Within (get_or ps i no_pair) → Counted x ps i links lefts rights → Counted x ps (i + 1) (links + 1) (set lefts (get_or ps i no_pair).left true) (set rights (get_or ps i no_pair).right true)
-counted_more x ps i links lefts rights h e at before =
-    let p = get_or ps i no_pair in
-    let more = linking_more x ps i h e in (
-      omega (arith, before.0, ap length more, length-append (linking x (take i ps)) (p ∷ [])),
-      length-set lefts p.left true ∙ before.1,
-      length-set rights p.right true ∙ before.2,
-      subst (λ (qs : List CodedPair). Marks left_of qs (set lefts p.left true)) (sym more) (marks_more left_of (linking x (take i ps)) p lefts (omega (arith, at.0, before.1)) before.3),
-      subst (λ (qs : List CodedPair). Marks right_of qs (set rights p.right true)) (sym more) (marks_more right_of (linking x (take i ps)) p rights (omega (arith, at.1, before.2)) before.4),
-    )
-
--- a pair that is no link
-pub counted_less : (x : ℕ) (ps : List CodedPair) (i links : ℕ) (lefts rights : List Bool) → i < length ps → bit_and (get_or ps i no_pair).code x ≢ x → Counted x ps i links lefts rights → Counted x ps (i + 1) links lefts rights
-counted_less x ps i links lefts rights h e before =
-    subst
-    (λ (qs : List CodedPair). (links ≡ length qs) × (length lefts ≡ 2048) × (length rights ≡ 2048) × Marks left_of qs lefts × Marks right_of qs rights)
-    (sym (linking_less x ps i h e))
-    before
 
 -- all pairs
 pub counted_all : (x : ℕ) (ps : List CodedPair) (i links : ℕ) (lefts rights : List Bool) → length ps ≤ i → Counted x ps i links lefts rights → (links ≡ length (linking x ps)) × (marks_set lefts ≡ marked_count left_of (linking x ps)) × (marks_set rights ≡ marked_count right_of (linking x ps))

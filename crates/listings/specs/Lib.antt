@@ -2,6 +2,7 @@ pub mod Calls
 pub mod Candidates
 pub mod Copied
 pub mod Counts
+pub mod Held
 pub mod Kept
 pub mod Laws
 pub mod Links
@@ -10,5 +11,4 @@ pub mod Refusals
 pub mod Replies
 pub mod Runs
 pub mod Small
-pub mod Starting
 pub mod View

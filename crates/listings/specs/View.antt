@@ -1,8 +1,9 @@
 -- The calls, answers and listings of the code, as the definitions speak of them.
-use Rattle.std.specs.Prelude.{ℕ, ◌+◌, cond, List, [], Ok, Err, vec_items, Result}
+use Rattle.std.specs.Prelude.{◌≡◌, ℕ, ◌+◌, min, cond, List, [], Ok, Err, vec_items, Result}
 use Rattle.contexts.specs.Relation.{Relation}
 use Rattle.listings.specs.Calls.{Ask, take_at, page_from, tally_now, total_now, Reply, handed, ended, paged, refused, tallied, totalled}
-use Rattle.listings.specs.Copied.{copied}
+use Rattle.listings.specs.Held.{held}
+use Rattle.listings.specs.Replies.{candidate_count}
 use Rattle.listings.specs.Refusals.{take_refusal, page_refusal, total_refusal}
 use Rattle.listings.specs.declared.call.Answer.{Answer}
 use Rattle.listings.specs.declared.call.Answer.TheVariants as answers
@@ -45,19 +46,21 @@ total_of (Err e) = refused (total_refusal e) []
 
 -- An answer, with the bytes of its buffer.
 abbrev pub reply_of : Answer → Reply
-reply_of (answers.Handed buffer) = handed (vec_items buffer)
-reply_of (answers.Ended buffer) = ended (vec_items buffer)
-reply_of (answers.NotTaken e buffer) = refused (take_refusal e) (vec_items buffer)
-reply_of (answers.Paged n buffer) = paged n (vec_items buffer)
-reply_of (answers.NotPaged e buffer) = refused (page_refusal e) (vec_items buffer)
-reply_of (answers.Tallied t) = tally_of t
-reply_of (answers.Totalled n) = totalled n
-reply_of (answers.NotTotalled e) = refused (total_refusal e) []
+reply_of (answers.Took taken buffer) = taken_of taken (vec_items buffer)
+reply_of (answers.Paged count buffer) = paged_of count (vec_items buffer)
+reply_of (answers.Tallied tally) = tally_of tally
+reply_of (answers.Totalled total) = total_of total
 
 -- The relation that a listing lists: the one that its own copy holds.
 abbrev pub relation_of : {C : Type 0} → Listing C → Relation
-relation_of l = copied (vec_items l.left_present) (vec_items l.right_present) l.width.conditions (vec_items l.pairs)
+relation_of l = held l.copy
 
 -- How far it has come: how many it handed out, and one more once it has said "ended".
 abbrev pub level : {C : Type 0} → Listing C → ℕ
-level l = l.handed + cond l.ended 1 0
+level l = l.tally.handed + cond l.tally.ended 1 0
+
+-- A listing l that went on by so many takes with space, and is now m: its context and its relation stayed.
+pub record WentOn {C : Type 0} (l m : Listing C) (takes : ℕ) : Type 0 where
+  pub context : m.context ≡ l.context
+  pub relation : relation_of m ≡ relation_of l
+  pub level : level m ≡ min (level l + takes) (candidate_count (relation_of l) + 1)

@@ -20,7 +20,7 @@ pub enum Taken {
 }
 
 // How many candidates were handed out, the code of the last (0 if none), and whether a take has said "ended".
-#[derive(Clone, Copy, PartialEq, Eq, Debug)]
+#[derive(Clone, Copy, PartialEq, Eq, Default, Debug)]
 pub struct Tally {
     pub handed: u64,
     pub last: u64,
@@ -30,12 +30,14 @@ pub struct Tally {
 // An answer, with the buffer as the call left it.
 #[derive(Drop)]
 pub enum Answer {
-    Handed { buffer: Vec<u8> },
-    Ended { buffer: Vec<u8> },
-    NotTaken { fault: TakeFault, buffer: Vec<u8> },
-    Paged { count: usize, buffer: Vec<u8> },
-    NotPaged { fault: PageFault, buffer: Vec<u8> },
+    Took {
+        taken: Result<Taken, TakeFault>,
+        buffer: Vec<u8>,
+    },
+    Paged {
+        count: Result<usize, PageFault>,
+        buffer: Vec<u8>,
+    },
     Tallied(Tally),
-    Totalled(u64),
-    NotTotalled(TotalFault),
+    Totalled(Result<u64, TotalFault>),
 }

@@ -1,11 +1,11 @@
 // Whole runs: one listing over a context, any list of calls, and every answer with its buffer.
-ghost use Rattle.std.specs.Prelude.{◌≡◌, ◌+◌, ◌≤◌, min, [], map, vec_len, vec_capacity, MatchResult};
+ghost use Rattle.std.specs.Prelude.{◌≡◌, ◌+◌, ◌≤◌, [], map, vec_len, vec_capacity, MatchResult};
 ghost use Rattle.listings.specs.Calls.{with_space};
-ghost use Rattle.listings.specs.Replies.{candidate_count, reply as reply_by, replies as replies_by};
+ghost use Rattle.listings.specs.Replies.{reply as reply_by, replies as replies_by};
 ghost use Rattle.listings.specs.Runs.{Ran};
-ghost use Rattle.listings.specs.View.{relation_of, level as level_of, ask_of, reply_of};
+ghost use Rattle.listings.specs.View.{relation_of, level as level_of, ask_of, reply_of, WentOn};
 
-use crate::call::{Answer, Call, Taken};
+use crate::call::{Answer, Call};
 use crate::listing::{Listing, Unstarted, start};
 use contexts::Context;
 use std::alloc::Global;
@@ -25,32 +25,24 @@ pub struct Unanswered<C> {
 impl<C> Listing<C> {
     // Makes one call.
     pub fn answer(&mut self, call: Call) -> Answer
-        ensures same { self.new.context ≡ self.old.context }
-        ensures kept { relation_of self.new ≡ relation_of self.old }
-        ensures level { level_of self.new ≡ min (level_of self.old + with_space (ask_of call)) (candidate_count (relation_of self.old) + 1) }
+        ensures went { WentOn self.old self.new (with_space (ask_of call)) }
         ensures reply { reply_of result ≡ reply_by (relation_of self.old) (level_of self.old) (ask_of call) }
     {
         match call {
-            Call::Take { at, mut buffer } => match self.take(at, buffer.as_mut_slice()) {
-                Ok(taken) => match taken {
-                    Taken::Handed => Answer::Handed { buffer },
-                    Taken::Ended => Answer::Ended { buffer },
-                },
-                Err(fault) => Answer::NotTaken { fault, buffer },
-            },
-            Call::Page { from, mut buffer } => match self.page(from, buffer.as_mut_slice()) {
-                Ok(count) => Answer::Paged { count, buffer },
-                Err(fault) => Answer::NotPaged { fault, buffer },
-            },
+            Call::Take { at, mut buffer } => {
+                let taken = self.take(at, buffer.as_mut_slice());
+                Answer::Took { taken, buffer }
+            }
+            Call::Page { from, mut buffer } => {
+                let count = self.page(from, buffer.as_mut_slice());
+                Answer::Paged { count, buffer }
+            }
             Call::Tally => Answer::Tallied(self.tally()),
-            Call::Total => match self.total() {
-                Ok(total) => Answer::Totalled(total),
-                Err(fault) => Answer::NotTotalled(fault),
-            },
+            Call::Total => Answer::Totalled(self.total()),
         }
     }
 
-    // Makes the calls in their order. There is memory for every answer.
+    // Makes the calls in their order. There is memory for every answer. A loop, since a chain tells nothing of a listing that its closure changed.
     fn answer_all(&mut self, calls: Vec<Call>, mut answers: Vec<Answer>) -> Vec<Answer>
         requires space { vec_len answers + vec_len calls ≤ vec_capacity answers }
         requires none { answers.items ≡ [] }
@@ -75,15 +67,13 @@ pub fn run<C: Context>(
     let Ok(answers) = Vec::with_capacity(heap, calls.len()) else {
         return Err(Unanswered { context, calls });
     };
+    // Both ways hand the context back, so `?` does not do here.
     match start(heap, context) {
         Ok(mut listing) => {
             let answers = listing.answer_all(calls, answers);
             let context = listing.close();
             Ok(Answered { context, answers })
         }
-        Err(unstarted) => {
-            let Unstarted { context } = unstarted;
-            Err(Unanswered { context, calls })
-        }
+        Err(Unstarted { context }) => Err(Unanswered { context, calls }),
     }
 }

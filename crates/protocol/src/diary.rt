@@ -57,9 +57,6 @@ impl<'a> Diary<'a> {
     // Whether every step was printed.
     pub fn end(self) -> io::Result<()> {
         let Diary { rt: _, failure } = self;
-        match failure {
-            Some(error) => Err(error),
-            None => Ok(()),
-        }
+        failure.map_or(Ok(()), Err)
     }
 }

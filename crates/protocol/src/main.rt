@@ -10,14 +10,60 @@ use crate::diary::{Diary, Step};
 use anyhow::anyhow;
 use drafts::{Draft, Live, Undrafted};
 use listings::{Listing, Taken, Unstarted, start};
-use records::{Candidates, Condition, read};
+use records::{Candidate, Condition, Kind, Triple, read};
 use std::alloc::Global;
 use tables::{RegisterFile, Table};
 
-// Subject, property, value.
-const FOUND: [[u32; 3]; 4] = [[0, 0, 1], [0, 1, 10], [1, 0, 2], [1, 1, 11]];
+const FOUND: [Triple; 4] = [
+    Triple {
+        subject: 0,
+        property: 0,
+        value: 1,
+    },
+    Triple {
+        subject: 0,
+        property: 1,
+        value: 10,
+    },
+    Triple {
+        subject: 1,
+        property: 0,
+        value: 2,
+    },
+    Triple {
+        subject: 1,
+        property: 1,
+        value: 11,
+    },
+];
 
-const REPORTED: [[u32; 3]; 5] = [[0, 0, 1], [0, 1, 11], [1, 0, 2], [1, 1, 10], [1, 1, 11]];
+const REPORTED: [Triple; 5] = [
+    Triple {
+        subject: 0,
+        property: 0,
+        value: 1,
+    },
+    Triple {
+        subject: 0,
+        property: 1,
+        value: 11,
+    },
+    Triple {
+        subject: 1,
+        property: 0,
+        value: 2,
+    },
+    Triple {
+        subject: 1,
+        property: 1,
+        value: 10,
+    },
+    Triple {
+        subject: 1,
+        property: 1,
+        value: 11,
+    },
+];
 
 const SUBJECTS: usize = 2;
 
@@ -28,29 +74,26 @@ const CANDIDATE: usize = 32;
 
 // The values at property 0 agree.
 const EQUAL: Condition = Condition {
-    kind: 0,
+    kind: Kind::Equal as u32,
     left: 0,
     right: 0,
 };
 
 // A value at property 1 is common.
 const SHARE: Condition = Condition {
-    kind: 1,
+    kind: Kind::Share as u32,
     left: 1,
     right: 1,
 };
 
-fn register(heap: Global, triples: &[[u32; 3]]) -> anyhow::Result<RegisterFile> {
+fn register(heap: Global, triples: &[Triple]) -> anyhow::Result<RegisterFile> {
     let mut bytes = Vec::new(heap);
     for triple in triples {
-        for field in triple {
+        for field in [triple.subject, triple.property, triple.value] {
             bytes.extend_from_slice(&field.to_le_bytes())?;
         }
     }
-    match RegisterFile::new(bytes, SUBJECTS, PROPERTIES) {
-        Ok(file) => Ok(file),
-        Err(_) => Err(anyhow!("a register was refused")),
-    }
+    RegisterFile::new(bytes, SUBJECTS, PROPERTIES).map_err(|_| anyhow!("a register was refused"))
 }
 
 // An empty draft over the tables.
@@ -59,13 +102,10 @@ fn draft(
     left: RegisterFile,
     right: RegisterFile,
 ) -> anyhow::Result<Draft<RegisterFile, RegisterFile>> {
-    match Draft::new(heap, left, right) {
-        Ok(draft) => Ok(draft),
-        Err(undrafted) => {
-            let Undrafted { left: _, right: _ } = undrafted;
-            Err(anyhow!("no memory for a draft"))
-        }
-    }
+    Draft::new(heap, left, right).map_err(|undrafted| {
+        let Undrafted { left: _, right: _ } = undrafted;
+        anyhow!("no memory for a draft")
+    })
 }
 
 // Adds to the draft in the slot.
@@ -73,12 +113,9 @@ fn add(slot: &mut Option<Draft<RegisterFile, RegisterFile>>, condition: Conditio
     requires { is_some slot.old ≡ true }
     ensures { is_some slot.new ≡ true }
 {
-    match slot {
-        Some(draft) => match draft.add(condition) {
-            Ok(()) => Step::Added,
-            Err(_) => Step::Refused,
-        },
-        None => unreachable(),
+    match slot.as_mut().unwrap().add(condition) {
+        Ok(()) => Step::Added,
+        Err(_) => Step::Refused,
     }
 }
 
@@ -87,10 +124,7 @@ fn begin(slot: &mut Option<Draft<RegisterFile, RegisterFile>>) -> Live<RegisterF
     requires { is_some slot.old ≡ true }
     ensures { is_some slot.new ≡ false }
 {
-    match slot.take() {
-        Some(draft) => draft.start(),
-        None => unreachable(),
-    }
+    slot.take().unwrap().start()
 }
 
 // A listing that has handed out nothing.
@@ -98,14 +132,11 @@ fn list(
     heap: Global,
     live: Live<RegisterFile, RegisterFile>,
 ) -> anyhow::Result<Listing<Live<RegisterFile, RegisterFile>>> {
-    match start(heap, live) {
-        Ok(listing) => Ok(listing),
-        Err(unstarted) => {
-            let Unstarted { context } = unstarted;
-            let (_, _) = context.into_tables();
-            Err(anyhow!("no memory for a listing"))
-        }
-    }
+    start(heap, live).map_err(|unstarted| {
+        let Unstarted { context } = unstarted;
+        let (_, _) = context.into_tables();
+        anyhow!("no memory for a listing")
+    })
 }
 
 // Takes from the listing in the slot.
@@ -113,21 +144,16 @@ fn take<C>(slot: &mut Option<Listing<C>>) -> Step
     requires { is_some slot.old ≡ true }
     ensures { is_some slot.new ≡ true }
 {
-    match slot {
-        Some(listing) => {
-            let mut record = [0; CANDIDATE];
-            match listing.take(0, &mut record) {
-                Ok(Taken::Handed) => told(&record),
-                Ok(Taken::Ended) => Step::Ended,
-                Err(_) => Step::Untaken,
-            }
-        }
-        None => unreachable(),
+    let mut record = [0; CANDIDATE];
+    match slot.as_mut().unwrap().take(0, &mut record) {
+        Ok(Taken::Handed) => told(&record),
+        Ok(Taken::Ended) => Step::Ended,
+        Err(_) => Step::Untaken,
     }
 }
 
 fn told(record: &[u8]) -> Step {
-    match read::<Candidates>(record, 0) {
+    match read::<Candidate>(record, 0) {
         Ok(candidate) => Step::Took {
             code: candidate.code,
             links: candidate.links,
@@ -141,10 +167,7 @@ fn close<C>(slot: &mut Option<Listing<C>>) -> C
     requires { is_some slot.old ≡ true }
     ensures { is_some slot.new ≡ false }
 {
-    match slot.take() {
-        Some(listing) => listing.close(),
-        None => unreachable(),
-    }
+    slot.take().unwrap().close()
 }
 
 // Drafts a condition, and starts the draft.

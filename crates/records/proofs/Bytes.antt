@@ -6,9 +6,6 @@ use Rattle.records.specs.Fields.{four, bytes_of, field_of, fields_in}
 abbrev pub Below : ℕ → List ℕ → Type 0
 Below bound xs = (i : ℕ) → get_or xs i 0 < bound
 
-pub below_rest : (bound x : ℕ) (xs : List ℕ) → Below bound (x ∷ xs) → Below bound xs
-below_rest bound x xs h i = h (suc i)
-
 -- four bytes make a field, and a field is four bytes
 pub four_field : (a b c d : ℕ) → a < 256 → b < 256 → c < 256 → four (field_of a b c d) ≡ a ∷ b ∷ c ∷ d ∷ []
 four_field a b c d la lb lc =

@@ -3,7 +3,7 @@ use Rattle.std.proofs.lemmas.List.{take_at, drop_at, drop-drop, take-append-drop
 use Rattle.std.proofs.lemmas.Bool.{cond-true, le-leb, leb-true, cases_lt}
 use Rattle.records.specs.Fields.{bytes_of, fields_in}
 use Rattle.records.specs.Reading.{lies_in, record_at, read_answer}
-use Rattle.records.specs.Refusals.{Refusal}
+use Rattle.records.specs.Refusals.{Refusal, told}
 use Rattle.records.specs.Trips.{read_back_answer, write_back_answer}
 use Rattle.records.specs.Writing.{has_space, put_at, write_answer}
 use Rattle.records.proofs.Bytes.{Below, fields_in_bytes, length_bytes_of, bytes_of_fields, length_fields_in, fields_in_below}
@@ -13,6 +13,11 @@ pub both_yes : {A : Type 0} (p q : Bool) (a b : A) (e f : Refusal) → Ok a ≡ 
 both_yes true true a b e f h = (refl, refl, cc)
 both_yes true false a b e f h = let z : ◌≡◌ {A = ℕ} 0 1 = cc in absurd (omega arith)
 both_yes false q a b e f h = let z : ◌≡◌ {A = ℕ} 0 1 = cc in absurd (omega arith)
+
+-- an answer that is told as a result is that result
+pub told_ok : {A E : Type 0} (refusal : E → Refusal) (r : Result A E) (a : A) → told refusal r ≡ Ok a → r ≡ Ok a
+told_ok refusal (Ok b) a h = cc
+told_ok refusal (Err e) a h = let z : ◌≡◌ {A = ℕ} 0 1 = cc in absurd (omega arith)
 
 pub write_yes : (allowed : Bool) (s at : ℕ) (xs : List ℕ) → at + s ≤ length xs → allowed ≡ true → Ok tt ≡ write_answer allowed s at xs
 write_yes allowed s at xs l a =

@@ -1,7 +1,8 @@
-use Rattle.std.specs.Prelude.{ℕ, ◌+◌, ◌*◌, ◌/◌, ◌%◌, Bool, true, cond, List, [], ◌∷◌, is_some, Some, None, Option, ◌==◌, slice_index}
+use Rattle.std.specs.Prelude.{ℕ, ◌+◌, ◌*◌, ◌/◌, ◌%◌, Bool, true, cond, List, [], ◌∷◌, is_some, Some, None, Option, Result, MatchResult, ◌≡◌, ◌==◌, slice_index}
 use Rattle.records.specs.declared.kinds.triple.Triple.{Triple}
 use Rattle.records.specs.declared.kinds.condition.Condition.{Condition}
 use Rattle.records.specs.declared.kinds.condition.Kind.{Kind}
+use Rattle.records.specs.declared.kinds.condition.UnknownKind.{UnknownKind}
 use Rattle.records.specs.declared.kinds.condition.Kind.TheVariants.{Equal, Share}
 use Rattle.records.specs.declared.kinds.link.Link.{Link}
 use Rattle.records.specs.declared.kinds.candidate.Candidate.{Candidate}
@@ -16,6 +17,10 @@ triple_of fs = record { subject = slice_index fs 0; property = slice_index fs 1;
 -- The kind of condition that a number stands for: 0 is equal, 1 is share, any other is none.
 abbrev pub kind_of : ℕ → Option Kind
 kind_of n = cond (n == 0) (Some Equal) (cond (n == 1) (Some Share) None)
+
+-- What a number converts to: its kind, or, where it stands for none, an error with the number.
+abbrev pub KindOf : ℕ → Result Kind UnknownKind → Type 0
+KindOf n r = MatchResult r (λ kind. kind_of n ≡ Some kind) (λ e. (kind_of n ≡ None) × (e.0 ≡ n))
 
 -- The number that stands for a kind.
 abbrev pub kind_number : Kind → ℕ

@@ -1,6 +1,7 @@
 // What the calls on records refuse. Each case has a number and a place, given by definitions in specs/.
 ghost use Rattle.std.specs.Prelude.{◌≡◌, ℕ};
 ghost use Rattle.records.specs.Refusals.{Refusal, read_refusal, write_refusal, trip_refusal};
+ghost use Rattle.records.specs.declared.fault.TripFault.{TripFault};
 
 // A refusal that can tell its number and its place.
 pub trait Fault {
@@ -64,6 +65,22 @@ impl Fault for WriteFault {
 pub enum TripFault {
     Reading(ReadFault),
     Writing(WriteFault),
+}
+
+impl From<ReadFault> for TripFault {
+    ghost from_gives = { λ fault trip. trip ≡ TripFault.Reading fault };
+
+    fn from(fault: ReadFault) -> TripFault {
+        TripFault::Reading(fault)
+    }
+}
+
+impl From<WriteFault> for TripFault {
+    ghost from_gives = { λ fault trip. trip ≡ TripFault.Writing fault };
+
+    fn from(fault: WriteFault) -> TripFault {
+        TripFault::Writing(fault)
+    }
 }
 
 impl Fault for TripFault {

@@ -9,10 +9,10 @@ pub mod record;
 pub mod round_trip;
 
 pub use fault::{Fault, ReadFault, TripFault, WriteFault};
-pub use kinds::candidate::{Candidate, Candidates};
-pub use kinds::condition::{Condition, Conditions, Kind};
-pub use kinds::link::{Link, Links};
-pub use kinds::triple::{Triple, Triples};
+pub use kinds::candidate::Candidate;
+pub use kinds::condition::{Condition, Kind, UnknownKind};
+pub use kinds::link::Link;
+pub use kinds::triple::Triple;
 pub use record::{Record, read, write};
 pub use round_trip::{reads_back, writes_back};
 

@@ -7,40 +7,39 @@ ghost use Rattle.records.specs.Writing.{put_at, write_answer};
 
 use crate::fault::{ReadFault, WriteFault};
 
-// A kind of record: how many bytes one takes, and the body that it carries.
-pub trait Record {
+// A kind of record: how many bytes one takes, and how a body stands in them.
+pub trait Record: Drop {
     const SIZE: usize;
-
-    type Body: Drop;
 
     ghost size: { ℕ };
     // The fields of a body in their order, and the body that fields make.
-    ghost fields: { Self.Body → List ℕ };
+    ghost fields: { Self → List ℕ };
 
-    ghost made: { List ℕ → Self.Body };
+    ghost made: { List ℕ → Self };
     // Whether a record of this kind may carry the body.
-    ghost allowed: { Self.Body → Bool };
+    ghost allowed: { Self → Bool };
 
     // The size, as a number that proofs know.
     fn stride() -> usize
         ensures { result ≡ size };
 
-    fn allows(body: &Self::Body) -> bool
-        ensures { result ≡ allowed body.now };
+    fn is_allowed(&self) -> bool
+        ensures { result ≡ allowed self.now };
 
     // The body of the record at the front of `part`, unless `part` is shorter than a record.
-    fn parse(part: &[u8]) -> Option<Self::Body>
+    fn parse(part: &[u8]) -> Option<Self>
         ensures { MatchOption result (length part.now < size) (λ b. (size ≤ length part.now) × (b ≡ made (fields_in (take size part.now)))) };
 
     // Writes the body at the front of `part`; a `part` shorter than a record stays as it was.
-    fn put(part: &mut [u8], body: &Self::Body)
-        ensures { part.new ≡ (if nat_le size (length part.old) then bytes_of (fields body.now) ++ drop size part.old else part.old) };
+    fn put(&self, part: &mut [u8])
+        ensures { part.new ≡ (if nat_le size (length part.old) then bytes_of (fields self.now) ++ drop size part.old else part.old) };
 
+    // What each kind proves, where it stands: src/ can cite nothing of its own crate's proofs/.
     ghost some: { 0 < size };
 
-    ghost whole: { (b : Self.Body) → 4 * length (fields b) ≡ size };
+    ghost whole: { (b : Self) → 4 * length (fields b) ≡ size };
 
-    ghost carried: { (b : Self.Body) → made (fields b) ≡ b };
+    ghost carried: { (b : Self) → made (fields b) ≡ b };
 
     ghost kept: { (fs : List ℕ) → 4 * length fs ≡ size → ((j : ℕ) → slice_index fs j < 2 ^ 32) → fields (made fs) ≡ fs };
 }
@@ -54,7 +53,7 @@ pub(crate) fn offset(len: usize, size: usize, i: usize) -> Option<usize>
 }
 
 // The body of record i, whether allowed or not.
-fn find<K: Record>(bytes: &[u8], i: usize) -> Option<K::Body>
+fn find<K: Record>(bytes: &[u8], i: usize) -> Option<K>
     ensures { MatchOption result (length bytes.now < i * K.Record.size + K.Record.size) (λ b. (i * K.Record.size + K.Record.size ≤ length bytes.now) × (b ≡ K.Record.made (fields_in (take K.Record.size (drop (i * K.Record.size) bytes.now))))) }
 {
     let at = offset(bytes.len(), K::stride(), i)?;
@@ -62,13 +61,11 @@ fn find<K: Record>(bytes: &[u8], i: usize) -> Option<K::Body>
 }
 
 // Reads record i.
-pub fn read<K: Record>(bytes: &[u8], i: usize) -> Result<K::Body, ReadFault>
+pub fn read<K: Record>(bytes: &[u8], i: usize) -> Result<K, ReadFault>
     ensures { told read_refusal result ≡ read_answer K.Record.made K.Record.allowed K.Record.size bytes.now i }
 {
-    let Some(body) = find::<K>(bytes, i) else {
-        return Err(ReadFault::CutShort { record: i });
-    };
-    if K::allows(&body) {
+    let body = find::<K>(bytes, i).ok_or(ReadFault::CutShort { record: i })?;
+    if body.is_allowed() {
         Ok(body)
     } else {
         Err(ReadFault::UnknownKind { record: i })
@@ -76,16 +73,16 @@ pub fn read<K: Record>(bytes: &[u8], i: usize) -> Result<K::Body, ReadFault>
 }
 
 // Writes a record from the offset on; every other byte stays.
-pub fn write<K: Record>(out: &mut [u8], at: usize, body: &K::Body) -> Result<(), WriteFault>
+pub fn write<K: Record>(out: &mut [u8], at: usize, body: &K) -> Result<(), WriteFault>
     ensures answer { told write_refusal result ≡ write_answer (K.Record.allowed body.now) K.Record.size at out.old }
     ensures after { out.new ≡ (if is_ok result then put_at at (bytes_of (K.Record.fields body.now)) out.old else out.old) }
 {
     if at > out.len() || out.len() - at < K::stride() {
         return Err(WriteFault::NoSpace);
     }
-    if !K::allows(body) {
+    if !body.is_allowed() {
         return Err(WriteFault::UnknownKind);
     }
-    K::put(&mut out[at..], body);
+    body.put(&mut out[at..]);
     Ok(())
 }

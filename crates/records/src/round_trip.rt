@@ -10,22 +10,13 @@ use crate::fault::{TripFault, WriteFault};
 use crate::record::{Record, offset, read, write};
 
 // Writes the body as record i and reads record i: the answer is the body.
-pub fn reads_back<K: Record>(
-    out: &mut [u8],
-    i: usize,
-    body: &K::Body,
-) -> Result<K::Body, WriteFault>
+pub fn reads_back<K: Record>(out: &mut [u8], i: usize, body: &K) -> Result<K, WriteFault>
     ensures answer { told write_refusal result ≡ read_back_answer K.Record.allowed K.Record.size i body.now out.old }
     ensures after { out.new ≡ (if is_ok result then put_at (i * K.Record.size) (bytes_of (K.Record.fields body.now)) out.old else out.old) }
 {
-    let Some(at) = offset(out.len(), K::stride(), i) else {
-        return Err(WriteFault::NoSpace);
-    };
-    write::<K>(out, at, body)?;
-    match read::<K>(out, i) {
-        Ok(back) => Ok(back),
-        Err(_) => unreachable(),
-    }
+    let at = offset(out.len(), K::stride(), i).ok_or(WriteFault::NoSpace)?;
+    write(out, at, body)?;
+    Ok(read(out, i).unwrap())
 }
 
 // Reads record i of `bytes` and writes it as record i of `out`: the same bytes stand there then.
@@ -34,12 +25,7 @@ pub fn writes_back<K: Record>(bytes: &[u8], i: usize, out: &mut [u8]) -> Result<
     ensures after { out.new ≡ (if is_ok result then put_at (i * K.Record.size) (record_at K.Record.size i bytes.now) out.old else out.old) }
     ensures unchanged { out.old ≡ bytes.now → (out.new ≡ bytes.now) × (is_ok result ≡ is_ok (read_answer K.Record.made K.Record.allowed K.Record.size bytes.now i)) }
 {
-    let body = match read::<K>(bytes, i) {
-        Ok(body) => body,
-        Err(fault) => return Err(TripFault::Reading(fault)),
-    };
-    match write::<K>(out, i * K::stride(), &body) {
-        Ok(()) => Ok(()),
-        Err(fault) => Err(TripFault::Writing(fault)),
-    }
+    let body = read::<K>(bytes, i)?;
+    write(out, i * K::stride(), &body)?;
+    Ok(())
 }

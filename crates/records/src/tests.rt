@@ -39,9 +39,9 @@ fn condition(kind: u32) -> Condition {
 }
 
 // Two records of K in `two`, whose length is just that: reading and writing at and past the last one.
-fn edges<K: Record>(rt: &impl Abort, two: &mut [u8], body: &K::Body) -> Result<(), Fail>
+fn edges<K: Record>(rt: &impl Abort, two: &mut [u8], body: &K) -> Result<(), Fail>
 where
-    K::Body: PartialEq + Debug,
+    K: PartialEq + Debug,
 {
     let size = K::stride();
     assert_eq!(rt; two.len() / 2, size);
@@ -62,14 +62,14 @@ where
 
 #[test]
 fn kinds_at_both_edges(rt: HostRuntime) -> Result<(), Fail> {
-    edges::<Triples>(&rt, &mut [0; 24], &TRIPLE)?;
-    edges::<Conditions>(&rt, &mut [0; 24], &condition(1))?;
-    edges::<Links>(&rt, &mut [0; 16], &LINK)?;
-    edges::<Candidates>(&rt, &mut [0; 64], &CANDIDATE)
+    edges::<Triple>(&rt, &mut [0; 24], &TRIPLE)?;
+    edges::<Condition>(&rt, &mut [0; 24], &condition(1))?;
+    edges::<Link>(&rt, &mut [0; 16], &LINK)?;
+    edges::<Candidate>(&rt, &mut [0; 64], &CANDIDATE)
 }
 
 // The record of K between two bytes of 99: its bytes count up from 1, and the bytes around it stay.
-fn layout<K: Record>(rt: &impl Abort, out: &mut [u8], body: &K::Body) {
+fn layout<K: Record>(rt: &impl Abort, out: &mut [u8], body: &K) {
     assert!(rt; out.len() > 1);
     assert_eq!(rt; out.len() - 2, K::stride());
     out.fill(99);
@@ -82,11 +82,11 @@ fn layout<K: Record>(rt: &impl Abort, out: &mut [u8], body: &K::Body) {
 
 #[test]
 fn fields_in_order_lowest_byte_first(rt: HostRuntime) {
-    layout::<Triples>(&rt, &mut [0; 14], &TRIPLE);
-    layout::<Links>(&rt, &mut [0; 10], &LINK);
-    layout::<Candidates>(&rt, &mut [0; 34], &CANDIDATE);
+    layout::<Triple>(&rt, &mut [0; 14], &TRIPLE);
+    layout::<Link>(&rt, &mut [0; 10], &LINK);
+    layout::<Candidate>(&rt, &mut [0; 34], &CANDIDATE);
     let mut out = [0; 12];
-    assert_eq!(rt; write::<Conditions>(&mut out, 0, &condition(1)), Ok(()));
+    assert_eq!(rt; write::<Condition>(&mut out, 0, &condition(1)), Ok(()));
     assert_eq!(rt; out, [1, 0, 0, 0, 5, 6, 7, 8, 9, 10, 11, 12]);
 }
 
@@ -96,33 +96,33 @@ fn refusals_leave_the_bytes(rt: HostRuntime) -> Result<(), Fail> {
     for (kind, known) in [(0, true), (1, true), (2, false), (4294967295, false)] {
         let mut out = [7; 13];
         assert_eq!(rt;
-            write::<Conditions>(&mut out, 2, &condition(kind)),
+            write::<Condition>(&mut out, 2, &condition(kind)),
             Err(WriteFault::NoSpace)
         );
         assert_eq!(rt; out, [7; 13]);
-        let answer = write::<Conditions>(&mut out, 1, &condition(kind));
+        let answer = write::<Condition>(&mut out, 1, &condition(kind));
         if known {
             assert_eq!(rt; answer, Ok(()));
-            assert_eq!(rt; read::<Conditions>(&out[1..], 0), Ok(condition(kind)));
-            assert_eq!(rt; Kind::of(kind).ok_or("kind")?.number(), kind);
+            assert_eq!(rt; read::<Condition>(&out[1..], 0), Ok(condition(kind)));
+            assert_eq!(rt; u32::from(Kind::try_from(kind).ok().ok_or("kind")?), kind);
         } else {
             assert_eq!(rt; answer, Err(WriteFault::UnknownKind));
             assert_eq!(rt; out, [7; 13]);
-            assert_eq!(rt; Kind::of(kind), None);
+            assert_eq!(rt; Kind::try_from(kind), Err(UnknownKind(kind)));
         }
     }
     // A candidate needs 32 bytes.
     let mut out = [7; 32];
     assert_eq!(rt;
-        write::<Candidates>(&mut out[0..31], 0, &CANDIDATE),
+        write::<Candidate>(&mut out[0..31], 0, &CANDIDATE),
         Err(WriteFault::NoSpace)
     );
     assert_eq!(rt; out, [7; 32]);
-    assert_eq!(rt; write::<Candidates>(&mut out, 0, &CANDIDATE), Ok(()));
+    assert_eq!(rt; write::<Candidate>(&mut out, 0, &CANDIDATE), Ok(()));
     // Reading tells the record, writing tells place 0.
-    let unknown = read::<Conditions>(&[2; 36], 2).err().ok_or("read")?;
+    let unknown = read::<Condition>(&[2; 36], 2).err().ok_or("read")?;
     assert_eq!(rt; (unknown.number(), unknown.place()), (30, 2));
-    let cut = read::<Conditions>(&[2; 36], 3).err().ok_or("read")?;
+    let cut = read::<Condition>(&[2; 36], 3).err().ok_or("read")?;
     assert_eq!(rt; (cut.number(), cut.place()), (29, 3));
     assert_eq!(rt;
         (WriteFault::NoSpace.number(), WriteFault::NoSpace.place()),
@@ -141,7 +141,7 @@ fn refusals_leave_the_bytes(rt: HostRuntime) -> Result<(), Fail> {
 #[test]
 fn written_reads_back(rt: HostRuntime) {
     let mut out = [7; 24];
-    assert_eq!(rt; reads_back::<Triples>(&mut out, 1, &TRIPLE), Ok(TRIPLE));
+    assert_eq!(rt; reads_back::<Triple>(&mut out, 1, &TRIPLE), Ok(TRIPLE));
     assert_eq!(rt;
         out,
         [
@@ -149,11 +149,11 @@ fn written_reads_back(rt: HostRuntime) {
         ]
     );
     assert_eq!(rt;
-        reads_back::<Triples>(&mut out, 2, &TRIPLE),
+        reads_back::<Triple>(&mut out, 2, &TRIPLE),
         Err(WriteFault::NoSpace)
     );
     assert_eq!(rt;
-        reads_back::<Conditions>(&mut out, 0, &condition(2)),
+        reads_back::<Condition>(&mut out, 0, &condition(2)),
         Err(WriteFault::UnknownKind)
     );
 }
@@ -164,7 +164,7 @@ fn read_writes_back(rt: HostRuntime) {
         7, 0, 0, 0, 7, 7, 7, 7, 7, 7, 7, 7, 1, 2, 3, 4, 5, 6, 7, 8, 9, 10, 11, 12,
     ];
     let mut out = [9; 24];
-    assert_eq!(rt; writes_back::<Triples>(&bytes, 1, &mut out), Ok(()));
+    assert_eq!(rt; writes_back::<Triple>(&bytes, 1, &mut out), Ok(()));
     assert_eq!(rt;
         out,
         [
@@ -172,16 +172,13 @@ fn read_writes_back(rt: HostRuntime) {
         ]
     );
     let cut = TripFault::Reading(ReadFault::CutShort { record: 2 });
-    assert_eq!(rt; writes_back::<Triples>(&bytes, 2, &mut out), Err(cut));
+    assert_eq!(rt; writes_back::<Triple>(&bytes, 2, &mut out), Err(cut));
     assert_eq!(rt; (cut.number(), cut.place()), (29, 2));
     let unknown = TripFault::Reading(ReadFault::UnknownKind { record: 0 });
-    assert_eq!(rt;
-        writes_back::<Conditions>(&bytes, 0, &mut out),
-        Err(unknown)
-    );
+    assert_eq!(rt; writes_back::<Condition>(&bytes, 0, &mut out), Err(unknown));
     let unwritten = TripFault::Writing(WriteFault::NoSpace);
     assert_eq!(rt;
-        writes_back::<Triples>(&bytes, 1, &mut [9; 23]),
+        writes_back::<Triple>(&bytes, 1, &mut [9; 23]),
         Err(unwritten)
     );
     assert_eq!(rt; (unwritten.number(), unwritten.place()), (24, 0));

@@ -2,13 +2,12 @@
 use Rattle.std.proofs.Common.{◌≡◌, ℕ, ◌+◌, ◌/◌, ◌<◌, ◌≤◌, List, [], length, drop, Some, None, Err, Option, sym, ap, ◌∙◌, arith}
 use Rattle.std.proofs.lemmas.List.FromFn.{length-map-range_with_len}
 use Rattle.std.proofs.lemmas.List.{drop_all}
-use Rattle.std.specs.Option.{option_map}
 use Rattle.records.specs.Kinds.{condition_of}
 use Rattle.records.specs.Questions.{answer_by, first_no}
 use Rattle.records.specs.Reading.{bodies}
 use Rattle.records.specs.Refusals.{Refusal}
 use Rattle.drafts.specs.Comparisons.{comparison_of}
-use Rattle.drafts.specs.Drafting.{draft_fault, with_more}
+use Rattle.drafts.specs.Drafting.{with_more}
 use Rattle.drafts.specs.declared.comparison.Comparison.{Comparison}
 use Rattle.records.specs.declared.kinds.condition.Condition.{Condition}
 use Rattle.tables.specs.declared.register.RegisterFile.{RegisterFile}
@@ -19,12 +18,6 @@ use Rattle.report.proofs.Opening.{body_at, drop_bodies}
 pub refused_by : (o : Option Refusal) (e : Refusal) → Err e ≡ answer_by o → o ≡ Some e
 refused_by None e h = let z : ◌≡◌ {A = ℕ} 0 1 = cc in absurd (omega arith)
 refused_by (Some f) e h = cc
-
--- the refusal of a condition, told at its record
-pub refused_at : (lm rm i : ℕ) (cs : List Comparison) (read kept : Condition) (e : Refusal) → read ≡ kept → Err e ≡ answer_by (draft_fault lm rm cs read) → at_record_fault lm rm i cs kept ≡ Some (e.0, i)
-refused_at lm rm i cs read kept e same h =
-    ap (λ (c : Condition). at_record_fault lm rm i cs c) (sym same)
-    ∙ ap (option_map (λ (f : Refusal). (f.0, i))) (refused_by (draft_fault lm rm cs read) e h)
 
 -- what is left of the conditions after one that was added
 pub fault_more : (lm rm i : ℕ) (cs : List Comparison) (xs : List ℕ) → i < length xs / 12 → at_record_fault lm rm i cs (condition_at xs i) ≡ None → conditions_fault lm rm i cs (drop i (bodies condition_of 12 xs)) ≡ conditions_fault lm rm (i + 1) (with_more cs (comparison_of (condition_at xs i))) (drop (i + 1) (bodies condition_of 12 xs))

@@ -67,7 +67,3 @@ fault_none made allowed size xs i h =
 -- a file of a right length is refused for a record only
 pub file_passes : {B : Type 0} (made : List ℕ → B) (allowed : B → Bool) (size : ℕ) (xs : List ℕ) → length_fault size xs ≡ None → file_fault made allowed size xs ≡ body_fault allowed 0 (bodies made size xs)
 file_passes made allowed size xs e = ap (λ (o : Option Refusal). first_no o (body_fault allowed 0 (bodies made size xs))) e
-
--- and a file of a wrong length for that
-pub file_fails : {B : Type 0} (made : List ℕ → B) (allowed : B → Bool) (size : ℕ) (xs : List ℕ) (refusal : Refusal) → length_fault size xs ≡ Some refusal → file_fault made allowed size xs ≡ Some refusal
-file_fails made allowed size xs refusal e = ap (λ (o : Option Refusal). first_no o (body_fault allowed 0 (bodies made size xs))) e

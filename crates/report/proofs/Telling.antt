@@ -1,5 +1,5 @@
 -- What a take with just the space for a record tells, and what is read back of it.
-use Rattle.std.proofs.Common.{◌≡◌, ℕ, ◌+◌, ◌*◌, ◌/◌, ◌%◌, ◌<◌, ◌≤◌, min, Bool, true, false, cond, ltb, List, [], ◌∷◌, ◌++◌, length, get_or, None, Ok, Option, Result, String, refl, ap, ◌∙◌, subst, arith}
+use Rattle.std.proofs.Common.{◌≡◌, ℕ, ◌+◌, ◌*◌, ◌/◌, ◌%◌, ◌<◌, ◌≤◌, min, Bool, true, false, cond, ltb, List, [], ◌∷◌, ◌++◌, length, get_or, None, Ok, Err, is_ok, Option, Result, String, refl, ap, ◌∙◌, subst, arith}
 use Rattle.std.specs.declared.alloc.Global.{Global}
 use Rattle.std.proofs.lemmas.List.{append-nil, drop_all}
 use Rattle.std.proofs.lemmas.Bool.{ltb-true, ltb-false, lt-ltb}
@@ -8,6 +8,11 @@ use Rattle.listings.specs.Calls.{take_at, total_now, handed, ended, refused, tot
 use Rattle.listings.specs.Candidates.{candidates}
 use Rattle.listings.specs.Counts.{candidate_body, candidate_bytes}
 use Rattle.listings.specs.Replies.{candidate_count, reply}
+use Rattle.listings.specs.Refusals.{take_refusal, total_refusal}
+use Rattle.listings.specs.View.{taken_of, total_of}
+use Rattle.listings.specs.declared.call.Taken.{Taken}
+use Rattle.listings.specs.declared.fault.TakeFault.{TakeFault}
+use Rattle.listings.specs.declared.fault.TotalFault.{TotalFault}
 use Rattle.records.specs.Kinds.{candidate_fields, candidate_of, any_body}
 use Rattle.records.specs.Reading.{read_answer}
 use Rattle.records.specs.Refusals.{Refusal}
@@ -54,6 +59,10 @@ module _ (c : Relation) (w : ℕ) where
       go true f = let z : ◌≡◌ {A = ℕ} 0 1 = cc in omega arith
       go false f = let z : ◌≡◌ {A = ℕ} 0 1 = cc in omega arith
 
+pub always_taken : (c : Relation) (w : ℕ) (r : Result Taken TakeFault) (b : List ℕ) → taken_of r b ≡ reply c w (take_at 0 blank) → is_ok r ≡ true
+always_taken c w (Ok t) b e = refl
+always_taken c w (Err f) b e = absurd (never_refused c w (take_refusal f) b e)
+
 body_back : (b : Candidate) → candidate_of (candidate_fields b) ≡ b
 body_back b =
     let code : b.code % 4294967296 + b.code / 4294967296 * 4294967296 ≡ b.code = omega arith in
@@ -67,12 +76,16 @@ reads_candidate c x b e =
     ap (λ (v : List ℕ). read_answer candidate_of any_body 32 v 0) e ∙ ap {B = Result Candidate Refusal} Ok (ap candidate_of (fields_in_bytes fs) ∙ body_back (candidate_body c x))
 
 -- past the end the total is told
-pub total_told : (c : Relation) (w : ℕ) (n : Refusal) (b : List ℕ) → candidate_count c < w → refused n b ≡ reply c w total_now → ⊥
+total_told : (c : Relation) (w : ℕ) (n : Refusal) (b : List ℕ) → candidate_count c < w → refused n b ≡ reply c w total_now → ⊥
 unfolding reply
 total_told c w n b h e =
     let told = e ∙ ap (λ (t : Bool). cond t (totalled (candidate_count c)) (refused (28, 0) [])) (lt-ltb (candidate_count c) w h) in
     let z : ◌≡◌ {A = ℕ} 0 1 = cc in
     omega arith
+
+pub always_totalled : (c : Relation) (w : ℕ) (r : Result ℕ TotalFault) → candidate_count c < w → total_of r ≡ reply c w total_now → is_ok r ≡ true
+always_totalled c w (Ok n) h e = refl
+always_totalled c w (Err f) h e = absurd (total_told c w (total_refusal f) [] h e)
 
 -- a listing that has no line left has ended
 pub ended_after : (c d : Relation) (w v : ℕ) (o : Option (String Global)) → d ≡ c → v ≡ min (w + 1) (candidate_count c + 1) → o ≡ None → Told c w (Ok o) → candidate_count d < v

@@ -37,3 +37,9 @@ abbrev pub Opened : {B : Type 0} → (List ℕ → B) → (B → Bool) → ℕ �
 Opened made allowed size xs (Ok v) = (file_fault made allowed size xs ≡ None) × (vec_items v ≡ bodies made size xs)
 Opened made allowed size xs (Err (Fault e)) = file_fault made allowed size xs ≡ Some (file_refusal e)
 Opened made allowed size xs (Err NoMemory) = length_fault size xs ≡ None
+
+-- What a program goes on with: what was opened, or nothing where the file was refused; never with want of memory.
+abbrev pub Accepted : {T : Type 0} → Result T OpenError → Option T → Type 0
+Accepted (Ok t) o = o ≡ Some t
+Accepted (Err (Fault e)) o = o ≡ None
+Accepted (Err NoMemory) o = ⊥

@@ -10,7 +10,7 @@ ghost use Rattle.report.specs.Files.{file_refusal};
 
 use crate::file::{FileFault, OpenError, check_length};
 use drafts::{Comparison, Draft, Undrafted};
-use records::{Conditions, Kind, read};
+use records::{Condition, Kind, read};
 use std::alloc::Global;
 use tables::RegisterFile;
 
@@ -29,13 +29,10 @@ fn add_record(
     ensures left { draft.new.left ≡ draft.old.left }
     ensures right { draft.new.right ≡ draft.old.right }
 {
-    match read::<Conditions>(bytes, i) {
-        Ok(condition) => match draft.add(condition) {
-            Ok(()) => Ok(()),
-            Err(fault) => Err(FileFault::Undrafted { record: i, fault }),
-        },
-        Err(fault) => Err(FileFault::Unread(fault)),
-    }
+    let condition = read::<Condition>(bytes, i)?;
+    draft
+        .add(condition)
+        .map_err(|fault| FileFault::Undrafted { record: i, fault })
 }
 
 // Adds every condition of the file, in order.
@@ -45,11 +42,9 @@ fn add_records(draft: &mut Draft<RegisterFile, RegisterFile>, bytes: &[u8]) -> R
     ensures left { draft.new.left ≡ draft.old.left }
     ensures right { draft.new.right ≡ draft.old.right }
 {
+    // A condition is added by its number, which is also what its refusal tells.
     for i in 0..bytes.len() / SIZE {
-        match add_record(draft, bytes, i) {
-            Ok(()) => {}
-            Err(fault) => return Err(fault),
-        }
+        add_record(draft, bytes, i)?;
     }
     Ok(())
 }
@@ -63,20 +58,15 @@ pub fn open_draft(
 ) -> Result<Draft<RegisterFile, RegisterFile>, OpenError>
     ensures { DraftOpened left right bytes.now result }
 {
-    match check_length(bytes, SIZE) {
-        Ok(()) => {}
-        Err(fault) => return Err(OpenError::Fault(fault)),
-    }
-    let mut draft = match Draft::new(heap, left, right) {
-        Ok(draft) => draft,
-        Err(undrafted) => {
-            let Undrafted { left: _, right: _ } = undrafted;
-            return Err(OpenError::NoMemory);
-        }
-    };
+    check_length(bytes, SIZE)?;
+    let mut draft = Draft::new(heap, left, right).map_err(|undrafted| {
+        let Undrafted { left: _, right: _ } = undrafted;
+        OpenError::NoMemory
+    })?;
     match add_records(&mut draft, bytes) {
         Ok(()) => Ok(draft),
         Err(fault) => {
+            // A draft is let go by name, so `?` does not do here.
             let (_, _) = draft.into_tables();
             Err(OpenError::Fault(fault))
         }
@@ -87,11 +77,8 @@ pub fn open_draft(
 pub fn count_kind(comparisons: &[Comparison], kind: Kind) -> usize
     ensures { result ≡ of_kind kind comparisons.now }
 {
-    let mut count = 0;
-    for comparison in comparisons {
-        if comparison.kind.number() == kind.number() {
-            count += 1;
-        }
-    }
-    count
+    comparisons
+        .iter()
+        .filter(|comparison| comparison.kind == kind)
+        .count()
 }

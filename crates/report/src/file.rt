@@ -3,11 +3,13 @@ ghost use Rattle.std.specs.Prelude.{◌≡◌, ◌<◌};
 ghost use Rattle.records.specs.Questions.{Checked};
 ghost use Rattle.records.specs.Refusals.{Refusal};
 ghost use Rattle.report.specs.Files.{Opened, file_refusal, length_fault};
+ghost use Rattle.report.specs.declared.file.FileFault.TheVariants.{Unread, Unregistered};
+ghost use Rattle.report.specs.declared.file.OpenError.TheVariants.{Fault, NoMemory};
 
 use drafts::DraftFault;
 use records::{Fault, ReadFault, Record, read};
-use std::alloc::Global;
-use tables::RegisterFault;
+use std::alloc::{AllocFailed, Global};
+use tables::{RegisterFault, RegisterRefusal};
 
 // The most bytes that a file may have.
 pub const LONGEST: usize = 65532;
@@ -45,11 +47,51 @@ impl Fault for FileFault {
     }
 }
 
+impl From<ReadFault> for FileFault {
+    ghost from_gives = { λ fault file. file ≡ Unread fault };
+
+    fn from(fault: ReadFault) -> FileFault {
+        FileFault::Unread(fault)
+    }
+}
+
 // Why a file was not opened: it was refused, or there was no memory for its records.
 #[derive(Clone, Copy, PartialEq, Eq, Debug)]
 pub enum OpenError {
     Fault(FileFault),
     NoMemory,
+}
+
+impl From<FileFault> for OpenError {
+    ghost from_gives = { λ fault error. error ≡ Fault fault };
+
+    fn from(fault: FileFault) -> OpenError {
+        OpenError::Fault(fault)
+    }
+}
+
+impl From<ReadFault> for OpenError {
+    ghost from_gives = { λ fault error. error ≡ Fault (Unread fault) };
+
+    fn from(fault: ReadFault) -> OpenError {
+        OpenError::Fault(FileFault::Unread(fault))
+    }
+}
+
+impl From<RegisterRefusal> for OpenError {
+    ghost from_gives = { λ refusal error. error ≡ Fault (Unregistered refusal.fault) };
+
+    fn from(refusal: RegisterRefusal) -> OpenError {
+        OpenError::Fault(FileFault::Unregistered(refusal.fault))
+    }
+}
+
+impl<T: Drop> From<AllocFailed<T>> for OpenError {
+    ghost from_gives = { λ _ error. error ≡ NoMemory };
+
+    fn from(_failed: AllocFailed<T>) -> OpenError {
+        OpenError::NoMemory
+    }
 }
 
 // Whether a file has at most as many bytes as it may, and whole records only.
@@ -67,24 +109,16 @@ pub(crate) fn check_length(bytes: &[u8], size: usize) -> Result<(), FileFault>
 }
 
 // Every record of a file, in order.
-pub fn open<K: Record>(heap: Global, bytes: &[u8]) -> Result<Vec<K::Body>, OpenError>
+pub fn open<K: Record>(heap: Global, bytes: &[u8]) -> Result<Vec<K>, OpenError>
     ensures { Opened K.Record.made K.Record.allowed K.Record.size bytes.now result }
 {
     let size = K::stride();
-    match check_length(bytes, size) {
-        Ok(()) => {}
-        Err(fault) => return Err(OpenError::Fault(fault)),
-    }
+    check_length(bytes, size)?;
     let mut bodies = Vec::new(heap);
+    // A record is read by its number, which is also what its refusal tells.
     for i in 0..bytes.len() / size {
-        match read::<K>(bytes, i) {
-            Ok(body) => {
-                if bodies.push(body).is_err() {
-                    return Err(OpenError::NoMemory);
-                }
-            }
-            Err(fault) => return Err(OpenError::Fault(FileFault::Unread(fault))),
-        }
+        let body = read::<K>(bytes, i)?;
+        bodies.push(body)?;
     }
     Ok(bodies)
 }

@@ -1,6 +1,7 @@
-// What the program makes of its files: tables and a draft or a fault, and the bytes of every line that it prints.
+// What the programs make of their files: tables and a draft or a fault, which is printed, and the bytes of every line.
 #![tactic(auto)]
 
+pub mod accepting;
 pub mod candidates;
 pub mod draft;
 pub mod file;
@@ -10,6 +11,7 @@ pub mod source;
 #[cfg(test)]
 mod tests;
 
+pub use accepting::accepted;
 pub use candidates::next_line;
 pub use draft::{count_kind, open_draft};
 pub use file::{FileFault, OpenError, open};

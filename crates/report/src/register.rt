@@ -2,45 +2,43 @@
 ghost use Rattle.std.specs.Prelude.{◌≡◌};
 ghost use Rattle.report.specs.Registers.{subject_bound, property_bound, RegisterOpened};
 
-use crate::file::{FileFault, OpenError, open};
-use records::{Triple, Triples};
+use crate::file::{OpenError, open};
+use records::Triple;
 use std::alloc::Global;
 use tables::RegisterFile;
 
-// One more than the greatest subject, 0 without triples.
-fn count_subjects(triples: &[Triple]) -> usize
-    ensures { result ≡ subject_bound triples.now }
-{
-    let mut bound: usize = 0;
-    for triple in triples {
-        bound = bound.max(triple.subject as usize + 1);
-    }
-    bound
+// How many subjects and properties there must be at least.
+#[derive(Clone, Copy, PartialEq, Eq, Debug)]
+struct Bounds {
+    subjects: usize,
+    properties: usize,
 }
 
-// One more than the greatest property, 0 without triples.
-fn count_properties(triples: &[Triple]) -> usize
-    ensures { result ≡ property_bound triples.now }
-{
-    let mut bound: usize = 0;
-    for triple in triples {
-        bound = bound.max(triple.property as usize + 1);
+impl Bounds {
+    // One more than the greatest subject and the greatest property, 0 without triples.
+    fn of(triples: &[Triple]) -> Bounds
+        ensures subjects { result.subjects ≡ subject_bound triples.now }
+        ensures properties { result.properties ≡ property_bound triples.now }
+    {
+        // One pass for both.
+        let mut subjects: usize = 0;
+        let mut properties: usize = 0;
+        for triple in triples {
+            subjects = subjects.max(triple.subject as usize + 1);
+            properties = properties.max(triple.property as usize + 1);
+        }
+        Bounds {
+            subjects,
+            properties,
+        }
     }
-    bound
 }
 
 // The register file of these bytes, with the bounds that its records need.
 pub fn open_register(heap: Global, bytes: Vec<u8>) -> Result<RegisterFile, OpenError>
     ensures { RegisterOpened bytes.items result }
 {
-    let triples = match open::<Triples>(heap, bytes.as_slice()) {
-        Ok(triples) => triples,
-        Err(error) => return Err(error),
-    };
-    let subjects = count_subjects(triples.as_slice());
-    let properties = count_properties(triples.as_slice());
-    match RegisterFile::new(bytes, subjects, properties) {
-        Ok(register) => Ok(register),
-        Err(refusal) => Err(OpenError::Fault(FileFault::Unregistered(refusal.fault))),
-    }
+    let triples = open(heap, bytes.as_slice())?;
+    let bounds = Bounds::of(triples.as_slice());
+    Ok(RegisterFile::new(bytes, bounds.subjects, bounds.properties)?)
 }

@@ -1,10 +1,11 @@
 // Files at both edges of every refusal, and every line letter by letter.
+use crate::accepting::accepted;
 use crate::draft::{count_kind, open_draft};
 use crate::file::{FileFault, OpenError, open};
 use crate::lines::{candidate_line, draft_line, end_line, fault_line, register_line};
 use crate::register::open_register;
 use crate::source::Source;
-use records::{Candidate, Fault, Kind, Triples};
+use records::{Candidate, Fault, Kind, Triple};
 use std::alloc::Global;
 use std::process::Abort;
 use std::test::Fail;
@@ -33,7 +34,7 @@ fn told<T: Drop>(opened: Result<T, OpenError>) -> Result<(u32, usize), Fail> {
 
 fn zeros(heap: Global, count: usize) -> Result<(u32, usize), Fail> {
     let file = vec![in heap; 0; count]?;
-    told(open::<Triples>(heap, file.as_slice()))
+    told(open::<Triple>(heap, file.as_slice()))
 }
 
 #[test]
@@ -143,5 +144,15 @@ fn lines(rt: HostRuntime) -> Result<(), Fail> {
     assert_eq!(rt; line.as_str(), "fault left 4 0\n");
     let line = fault_line(heap, Source::Draft, &FileFault::Ragged)?;
     assert_eq!(rt; line.as_str(), "fault draft 1 0\n");
+    Ok(())
+}
+
+#[test]
+fn what_was_opened_is_gone_on_with(rt: HostRuntime) -> Result<(), Fail> {
+    assert_eq!(rt; accepted(&rt, Source::Left, Ok(5))?, Some(5));
+    let refused: Result<u32, OpenError> = Err(OpenError::Fault(FileFault::Ragged));
+    assert_eq!(rt; accepted(&rt, Source::Draft, refused)?, None);
+    let starved: Result<u32, OpenError> = Err(OpenError::NoMemory);
+    assert!(rt; accepted(&rt, Source::Right, starved).is_err());
     Ok(())
 }

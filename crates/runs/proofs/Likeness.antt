@@ -8,11 +8,11 @@ use Rattle.drafts.specs.declared.comparison.Comparison.{Comparison}
 use Rattle.listings.specs.Calls.{Ask}
 use Rattle.listings.specs.Kept.{Kept}
 use Rattle.listings.specs.Runs.{Ran}
-use Rattle.listings.specs.View.{ask_of, reply_of}
+use Rattle.listings.specs.View.{ask_of}
 use Rattle.listings.specs.declared.call.Answer.{Answer}
 use Rattle.listings.specs.declared.call.Call.{Call}
 use Rattle.tables.specs.Meaning.{Meaning}
-use Rattle.runs.specs.Tables.{RanOver, AnswerAlike}
+use Rattle.runs.specs.Tables.{RanOver}
 
 pub ran_over : (l r : Meaning) (cs : List Comparison) (calls : List Call) (answers : List Answer) → AlikeTablesRelateAlike l r cs → Ran (live l r cs) calls answers → RanOver l r cs calls answers
 ran_over l r cs calls answers alike ran =
@@ -20,23 +20,6 @@ ran_over l r cs calls answers alike ran =
       ran = ran;
       alike_tables_answer_alike = λ l' r' el er rs kept. ran.settled rs (subst (λ (c : Relation). Kept c (map ask_of calls) rs) (sym (alike l' r' el er)) kept);
     }
-
--- the same calls under another name
-pub over_same : (l r : Meaning) (cs : List Comparison) (calls again : List Call) (answers : List Answer) → map ask_of again ≡ map ask_of calls → RanOver l r cs again answers → RanOver l r cs calls answers
-over_same l r cs calls again answers same over =
-    record {
-      ran =
-          record {
-            kept = subst (λ (asks : List Ask). Kept (live l r cs) asks (map reply_of answers)) same over.ran.kept;
-            settled = λ rs kept. over.ran.settled rs (subst (λ (asks : List Ask). Kept (live l r cs) asks rs) (sym same) kept);
-          };
-      alike_tables_answer_alike = λ l' r' el er rs kept. over.alike_tables_answer_alike l' r' el er rs (subst (λ (asks : List Ask). Kept (live l' r' cs) asks rs) (sym same) kept);
-    }
-
-pub answer_alike : (l r l' r' : Meaning) (cs cs' : List Comparison) (calls : List Call) (answers answers' : List Answer) → RanOver l r cs calls answers → RanOver l' r' cs' calls answers' → AnswerAlike l r l' r' cs cs' answers answers'
-answer_alike l r l' r' cs cs' calls answers answers' one other same el er =
-    one.alike_tables_answer_alike l' r' el er (map reply_of answers')
-    (subst (λ (ds : List Comparison). Kept (live l' r' ds) (map ask_of calls) (map reply_of answers')) (sym same) other.ran.kept)
 
 -- one call more
 pub asks_push : (calls copies pushed : List Call) (i : ℕ) (d copy : Call) → i < length calls → map ask_of copies ≡ map ask_of (take i calls) → ask_of copy ≡ ask_of (get_or calls i d) → pushed ≡ copies ++ copy ∷ [] → map ask_of pushed ≡ map ask_of (take (i + 1) calls)

@@ -11,4 +11,4 @@ mod tests;
 pub use alike::{BothAnswered, BothUnanswered, run_alike};
 pub use laws::small_registers_are_listed;
 pub use over_book::run_over_book;
-pub use over_tables::{TablesAnswered, TablesUnanswered, run_over_tables};
+pub use over_tables::run_over_tables;

@@ -2,7 +2,6 @@
 ghost use Rattle.std.specs.Prelude.{◌≡◌, MatchResult};
 ghost use Rattle.runs.specs.Tables.{RanOver};
 
-use crate::over_tables::{TablesAnswered, TablesUnanswered};
 use drafts::Draft;
 use listings::{Answered, Call, Unanswered, run};
 use std::alloc::Global;
@@ -13,29 +12,22 @@ pub fn run_over_book<L: Table, R: Table>(
     heap: Global,
     draft: Draft<L, R>,
     calls: Vec<Call>,
-) -> Result<TablesAnswered<L, R>, TablesUnanswered<L, R>>
-    ensures { MatchResult result (λ d. (d.left ≡ draft.left) × (d.right ≡ draft.right) × RanOver (L.Table.meaning draft.left) (R.Table.meaning draft.right) draft.comparisons.items calls.items d.answers.items) (λ e. (e.left ≡ draft.left) × (e.right ≡ draft.right) × (e.calls ≡ calls)) }
+) -> Result<Answered<(L, R)>, Unanswered<(L, R)>>
+    ensures { MatchResult result (λ d. (d.context ≡ (draft.left, draft.right)) × RanOver (L.Table.meaning draft.left) (R.Table.meaning draft.right) draft.comparisons.items calls.items d.answers.items) (λ e. (e.context ≡ (draft.left, draft.right)) × (e.calls ≡ calls)) }
 {
     let made = draft.book(heap);
-    let (left, right) = draft.into_tables();
-    match made {
-        Ok(book) => match run(heap, book, calls) {
-            Ok(answered) => {
-                let Answered {
-                    context: _,
-                    answers,
-                } = answered;
-                Ok(TablesAnswered {
-                    left,
-                    right,
-                    answers,
-                })
-            }
-            Err(unanswered) => {
-                let Unanswered { context: _, calls } = unanswered;
-                Err(TablesUnanswered { left, right, calls })
-            }
-        },
-        Err(_) => Err(TablesUnanswered { left, right, calls }),
+    let context = draft.into_tables();
+    let Ok(book) = made else {
+        return Err(Unanswered { context, calls });
+    };
+    // Both ways hand the tables back, so `?` does not do here.
+    match run(heap, book, calls) {
+        Ok(
+            Answered {
+                context: _,
+                answers,
+            },
+        ) => Ok(Answered { context, answers }),
+        Err(Unanswered { context: _, calls }) => Err(Unanswered { context, calls }),
     }
 }

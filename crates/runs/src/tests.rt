@@ -1,9 +1,9 @@
 // The small registers by a script with every refusal in it, and tables that differ only where nobody looks.
 use crate::alike::{BothAnswered, BothUnanswered, run_alike};
-use crate::over_tables::{TablesAnswered, TablesUnanswered, run_over_tables};
+use crate::over_tables::run_over_tables;
 use drafts::{Draft, Undrafted};
-use listings::{Answer, Call};
-use records::{Candidates, Condition, Fault, Links, read};
+use listings::{Answer, Answered, Call, Taken, Unanswered};
+use records::{Candidate, Condition, Fault, Link, read};
 use std::alloc::Global;
 use std::process::Abort;
 use std::test::Fail;
@@ -163,26 +163,32 @@ fn last_right(count: usize, buffer: &[u8]) -> Result<u32, Fail> {
     if count == 0 {
         return Ok(0);
     }
-    let link = read::<Links>(buffer, count - 1)?;
+    let link = read::<Link>(buffer, count - 1)?;
     Ok(link.right)
 }
 
 fn tell(answer: &Answer) -> Result<Told, Fail> {
     match answer {
-        Answer::Handed { buffer } => {
-            let candidate = read::<Candidates>(buffer.as_slice(), 0)?;
-            Ok(Told::Handed(candidate.code, candidate.links))
-        }
-        Answer::Ended { buffer: _ } => Ok(Told::Ended),
-        Answer::NotTaken { fault, buffer: _ } => Ok(Told::Refused(fault.number())),
-        Answer::Paged { count, buffer } => {
-            let right = last_right(*count, buffer.as_slice())?;
-            Ok(Told::Paged(*count, right))
-        }
-        Answer::NotPaged { fault, buffer: _ } => Ok(Told::Refused(fault.number())),
+        Answer::Took { taken, buffer } => match taken {
+            Ok(Taken::Handed) => {
+                let candidate = read::<Candidate>(buffer.as_slice(), 0)?;
+                Ok(Told::Handed(candidate.code, candidate.links))
+            }
+            Ok(Taken::Ended) => Ok(Told::Ended),
+            Err(fault) => Ok(Told::Refused(fault.number())),
+        },
+        Answer::Paged { count, buffer } => match count {
+            Ok(count) => {
+                let right = last_right(*count, buffer.as_slice())?;
+                Ok(Told::Paged(*count, right))
+            }
+            Err(fault) => Ok(Told::Refused(fault.number())),
+        },
         Answer::Tallied(tally) => Ok(Told::Tallied(tally.handed, tally.last, tally.ended)),
-        Answer::Totalled(total) => Ok(Told::Totalled(*total)),
-        Answer::NotTotalled(fault) => Ok(Told::Refused(fault.number())),
+        Answer::Totalled(total) => match total {
+            Ok(total) => Ok(Told::Totalled(*total)),
+            Err(fault) => Ok(Told::Refused(fault.number())),
+        },
     }
 }
 
@@ -199,22 +205,18 @@ fn small_registers_answer_a_script(rt: HostRuntime) -> Result<(), Fail> {
     let heap = rt.alloc();
     let calls = script(heap)?;
     match run_over_tables(heap, draft(heap, &RIGHT, 2)?, calls) {
-        Ok(answered) => {
-            let TablesAnswered {
-                left: _,
-                right: _,
+        Ok(
+            Answered {
+                context: (_, _),
                 answers,
-            } = answered;
-            as_expected(&rt, answers.as_slice())
-        }
-        Err(unanswered) => {
-            let TablesUnanswered {
-                left: _,
-                right: _,
+            },
+        ) => as_expected(&rt, answers.as_slice()),
+        Err(
+            Unanswered {
+                context: (_, _),
                 calls: _,
-            } = unanswered;
-            Err(Fail::new("no memory"))
-        }
+            },
+        ) => Err(Fail::new("no memory")),
     }
 }
 
@@ -231,31 +233,24 @@ fn alike_tables_answer_alike(rt: HostRuntime) -> Result<(), Fail> {
         }
     };
     match run_alike(heap, one, other, calls) {
-        Ok(both) => {
-            let BothAnswered { one, other } = both;
-            let TablesAnswered {
-                left: _,
-                right: _,
-                answers,
+        Ok(BothAnswered { one, other }) => {
+            let Answered {
+                context: (_, _),
+                answers: first,
             } = one;
-            let first = as_expected(&rt, answers.as_slice());
-            let TablesAnswered {
-                left: _,
-                right: _,
-                answers,
+            let Answered {
+                context: (_, _),
+                answers: second,
             } = other;
-            first?;
-            as_expected(&rt, answers.as_slice())
+            as_expected(&rt, first.as_slice())?;
+            as_expected(&rt, second.as_slice())
         }
-        Err(unanswered) => {
-            let BothUnanswered {
-                left: _,
-                right: _,
-                other_left: _,
-                other_right: _,
+        Err(
+            BothUnanswered {
+                one: (_, _),
+                other: (_, _),
                 calls: _,
-            } = unanswered;
-            Err(Fail::new("no memory"))
-        }
+            },
+        ) => Err(Fail::new("no memory")),
     }
 }

@@ -1,2 +1,4 @@
+pub mod Chunks
 pub mod Entries
 pub mod Ordering
+pub mod SheetRows

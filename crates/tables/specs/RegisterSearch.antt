@@ -14,7 +14,11 @@ triple_at xs k = triple_of (fields_in (record_at 12 k xs))
 abbrev pub value_at : List ℕ → ℕ → ℕ
 value_at xs k = (triple_at xs k).value
 
--- The place of triple number k in the order of subjects and properties, where properties are below 64.
+-- The place of the triple of a record in the order of subjects and properties, where properties are below 64.
+abbrev pub key_in : List ℕ → ℕ
+key_in r = let t = triple_of (fields_in r) in t.subject * 64 + t.property
+
+-- The place of triple number k in that order.
 abbrev pub key_at : List ℕ → ℕ → ℕ
 key_at xs k = (triple_at xs k).subject * 64 + (triple_at xs k).property
 

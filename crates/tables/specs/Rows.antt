@@ -1,9 +1,9 @@
--- Lemmas on the words of a tick sheet: the check of one subject after another, and what a sheet that passes keeps.
-use Rattle.std.specs.Prelude.{◌≡◌, ℕ, zero, suc, ◌+◌, ◌-◌, ◌*◌, ◌<◌, ◌≤◌, Bool, true, false, cond, ◌⊎◌, List, [], ◌∷◌, map, length, take, drop, is_some, Some, None, Option, ◌==◌, ◌≢◌, nat_le, nat_lt, slice_index, refl}
+-- Lemmas on the words of a tick sheet: the check of one subject after another, and what a sheet that passes keeps. The lemmas stand here and not in proofs/: src/ cites them, and can cite nothing of its own crate's proofs/.
+use Rattle.std.specs.Prelude.{◌≡◌, ℕ, zero, suc, ◌+◌, ◌-◌, ◌*◌, ◌<◌, ◌≤◌, Bool, true, false, cond, ◌&&◌, ◌⊎◌, List, [], ◌∷◌, map, length, take, drop, is_some, Some, None, Option, ◌==◌, ◌≢◌, nat_le, nat_lt, slice_index, refl}
 use Rattle.std.proofs.Common.{sym, ap, subst, ◌∙◌, inl, inr, ⊎_elim, arith, mul-le-mul_right, add-mul, one-mul}
 use Rattle.std.specs.List.{range_with_len}
-use Rattle.std.proofs.lemmas.List.{at_drop_more, get_or-drop, take_rest}
-use Rattle.std.proofs.lemmas.Bool.{cond-true, cond-false, eq-eqb, ne_eqb, eqb-true, leb-true, le-ltb, le-leb, true≢false, false≢true, cases_eq}
+use Rattle.std.proofs.lemmas.List.{get_or-drop, take_rest}
+use Rattle.std.proofs.lemmas.Bool.{cond-true, eq-eqb, ne_eqb, eqb-true, leb-true, le-ltb, le-leb, true≢false, false≢true, cases_eq}
 use Rattle.records.specs.Refusals.{Refusal}
 use Rattle.records.specs.Questions.{first_no}
 use Rattle.tables.specs.TickSheet.{row, presence_word, tick_word, all_zero, clear_if_absent, row_fault, rows_fault, sheet_fault, sheet, ticked, Consistent}
@@ -11,18 +11,17 @@ use Rattle.tables.specs.Ticks.{ticked_zero}
 use Rattle.records.proofs.Questions.{answered, both_answered}
 
 -- words that are all 0
-pub zero_here : (ws : List ℕ) (i : ℕ) → i < length ws → (slice_index ws i ≢ 0) → all_zero (drop i ws) ≡ false
-zero_here ws i l e = at_drop_more all_zero ws i 0 l ∙ cond-false _ _ _ (ne_eqb _ _ e)
-
-pub zero_next : (ws : List ℕ) (i : ℕ) → i < length ws → slice_index ws i ≡ 0 → all_zero (drop i ws) ≡ all_zero (drop (i + 1) ws)
-zero_next ws i l e = at_drop_more all_zero ws i 0 l ∙ cond-true _ _ _ (eq-eqb _ _ e)
+zero_first : (w : ℕ) (d : Bool) → ((w == 0) && d) ≡ true → (w ≡ 0) × (d ≡ true)
+zero_first w d h =
+    ⊎_elim
+    (λ (e : w ≡ 0). (e, sym (ap (λ (b : Bool). b && d) (eq-eqb w 0 e)) ∙ h))
+    (λ (e : w ≡ 0 → ⊥). absurd (false≢true (sym (ap (λ (b : Bool). b && d) (ne_eqb w 0 e)) ∙ h)))
+    (cases_eq w 0)
 
 zero_each : (ws : List ℕ) → all_zero ws ≡ true → (i : ℕ) → slice_index ws i ≡ 0
 zero_each [] h i = refl
 zero_each (w ∷ ws) h i =
-    let parts : (w ≡ 0) × (all_zero ws ≡ true) =
-    ⊎_elim (λ (e : w ≡ 0). (e, sym (cond-true _ _ _ (eq-eqb _ _ e)) ∙ h)) (λ (e : w ≡ 0 → ⊥). absurd (false≢true (sym (cond-false _ _ _ (ne_eqb _ _ e)) ∙ h))) (cases_eq w 0)
-    in
+    let parts = zero_first w (all_zero ws) h in
     elim i as (λ j. slice_index (w ∷ ws) j ≡ 0) [ zero ↦ parts.0 | suc j ↦ zero_each ws parts.1 j ]
 
 -- the words of a subject below n lie in the sheet

@@ -1,3 +1,4 @@
+-- What holds of every list of a sheet. The lemmas stand here and not in proofs/: src/ cites them, and can cite nothing of its own crate's proofs/.
 use Rattle.std.specs.Prelude.{ℕ, cond, List, [], nat_lt}
 use Rattle.std.proofs.lemmas.Bool.{cond_both}
 use Rattle.tables.specs.TickSheet.{row, tick_word, ticked, sheet_present}

@@ -1,4 +1,4 @@
--- The triples of one subject and property stand together in a register file.
+-- The triples of one subject and property stand together in a register file. The lemmas stand here and not in proofs/: src/ cites them, and can cite nothing of its own crate's proofs/.
 use Rattle.std.specs.Prelude.{◌≡◌, ℕ, zero, suc, ◌+◌, ◌-◌, ◌*◌, ◌/◌, ◌^◌, ◌<◌, ◌≤◌, Bool, true, false, cond, not, ◌⊎◌, List, [], ◌∷◌, map, length, Some, filter, ◌≢◌, slice_index, refl}
 use Rattle.std.proofs.Common.{sym, ap, ◌∙◌, ⊎_elim, arith}
 use Rattle.std.specs.List.{range_with_len, AllByRecursion, slice_get}

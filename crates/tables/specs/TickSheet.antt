@@ -1,5 +1,5 @@
 use Rattle.std.specs.Prelude.{◌≡◌, ℕ, ◌+◌, ◌*◌, ◌/◌, ◌%◌, ◌^◌, ◌<◌, Bool, true, false, cond, ◌⊎◌, List, [], ◌∷◌, map, length, take, drop, None, filter, Option, ◌==◌, nat_le, nat_lt, slice_index}
-use Rattle.std.specs.List.{range_with_len}
+use Rattle.std.specs.List.{range_with_len, list_all}
 use Rattle.records.specs.Refusals.{Refusal}
 use Rattle.tables.specs.Meaning.{Meaning}
 use Rattle.records.specs.Questions.{ask, first_no}
@@ -39,8 +39,7 @@ sheet ws n m = record {
 
 -- Whether every word is 0.
 abbrev pub all_zero : List ℕ → Bool
-all_zero [] = true
-all_zero (w ∷ ws) = cond (w == 0) (all_zero ws) false
+all_zero ws = list_all (λ w. w == 0) ws
 
 -- Whether the words of an absent subject behind its presence word are 0; those of a present one may be any.
 abbrev pub clear_if_absent : List ℕ → Bool

@@ -1,38 +1,14 @@
--- Lemmas on the values that a word ticks.
-use Rattle.std.specs.Prelude.{◌≡◌, ℕ, zero, suc, ◌+◌, ◌-◌, ◌/◌, ◌%◌, ◌^◌, ◌<◌, ◌≤◌, Bool, true, false, cond, not, List, [], ◌∷◌, length, Some, filter, ◌==◌, ◌≢◌, refl}
+-- Lemmas on the values that a word ticks. The lemmas stand here and not in proofs/: src/ cites them, and can cite nothing of its own crate's proofs/.
+use Rattle.std.specs.Prelude.{◌≡◌, ℕ, zero, suc, ◌+◌, ◌/◌, ◌%◌, ◌^◌, ◌<◌, ◌≤◌, Bool, true, false, cond, not, List, [], ◌∷◌, length, filter, ◌==◌, refl}
 use Rattle.std.proofs.Common.{sym, ap, subst, ◌∙◌, arith, shr-shr}
 use Rattle.std.specs.Int.Count.{ones, ones_step}
-use Rattle.std.specs.List.{range_with_len, AllByRecursion, slice_get}
+use Rattle.std.specs.List.{range_with_len, AllByRecursion}
 use Rattle.std.proofs.lemmas.Nat.{shr_below}
 use Rattle.std.proofs.lemmas.List.FromFn.{length-range_with_len}
 use Rattle.std.proofs.ByRecursion.{all_kept_by}
 use Rattle.std.proofs.lemmas.List.Filters.{length-filter_both}
-use Rattle.std.proofs.lemmas.Bool.{cond-true, cond-false, eq-eqb, ne_eqb, eqb-true, eqb-false}
+use Rattle.std.proofs.lemmas.Bool.{eqb-true, eqb-false}
 use Rattle.tables.specs.TickSheet.{is_ticked, ticked}
-
--- the ticked values from v on
-abbrev pub ticked_from : ℕ → ℕ → List ℕ
-ticked_from w v = filter (is_ticked w) (range_with_len v (64 - v))
-
-pub ticked_begin : (w : ℕ) → ticked_from w 0 ≡ ticked w
-unfolding ticked
-ticked_begin w = refl
-
-ticked_step : (w v : ℕ) → v < 64 → ticked_from w v ≡ cond (is_ticked w v) (v ∷ ticked_from w (v + 1)) (ticked_from w (v + 1))
-ticked_step w v l =
-    let q : 64 - v ≡ suc (64 - (v + 1)) = omega arith in
-    ap (λ (k : ℕ). filter (is_ticked w) (range_with_len v k)) q
-
-pub ticked_here : (w v : ℕ) → v < 64 → w / 2 ^ v % 2 ≡ 1 → ticked_from w v ≡ v ∷ ticked_from w (v + 1)
-ticked_here w v l e = ticked_step w v l ∙ cond-true _ _ _ (eq-eqb _ _ e)
-
-pub ticked_next : (w v : ℕ) → v < 64 → (w / 2 ^ v % 2 ≢ 1) → ticked_from w v ≡ ticked_from w (v + 1)
-ticked_next w v l e = ticked_step w v l ∙ cond-false _ _ _ (ne_eqb _ _ e)
-
-pub ticked_end : (w v : ℕ) → 64 ≤ v → ticked_from w v ≡ []
-ticked_end w v l =
-    let q : 64 - v ≡ 0 = omega arith in
-    ap (λ (k : ℕ). filter (is_ticked w) (range_with_len v k)) q
 
 pub ticked_zero : ticked 0 ≡ []
 unfolding ticked
@@ -88,11 +64,3 @@ counting_small (suc k) v l = (omega arith, counting_small k (v + 1) (omega arith
 pub ticked_small : (w : ℕ) → AllByRecursion (λ v. v < 2 ^ 32) (ticked w)
 unfolding ticked
 ticked_small w = all_kept_by (is_ticked w) (λ v. v < 2 ^ 32) (range_with_len 0 64) (counting_small 64 0 (omega arith))
-
--- an entry of a list behind its first
-pub nth_behind : (x : ℕ) (xs : List ℕ) (i : ℕ) → (i ≢ 0) → slice_get (x ∷ xs) i ≡ slice_get xs (i - 1)
-nth_behind x xs zero h = absurd (h refl)
-nth_behind x xs (suc i) h = let e : i ≡ suc i - 1 = omega arith in ap (slice_get xs) e
-
-pub nth_first : (x : ℕ) (xs : List ℕ) (i : ℕ) → i ≡ 0 → slice_get (x ∷ xs) i ≡ Some x
-nth_first x xs i e = ap (slice_get (x ∷ xs)) e

@@ -1,4 +1,4 @@
--- Lemmas on the triples of a register file: the check of one after another, and what a file that passes keeps.
+-- Lemmas on the triples of a register file: the check of one after another, and what a file that passes keeps. The lemmas stand here and not in proofs/: src/ cites them, and can cite nothing of its own crate's proofs/.
 use Rattle.std.specs.Prelude.{◌≡◌, ℕ, zero, suc, ◌+◌, ◌-◌, ◌/◌, ◌%◌, ◌<◌, ◌≤◌, true, false, List, map, length, is_some, Some, None, Option, ◌==◌, nat_le, nat_lt, refl}
 use Rattle.std.proofs.Common.{sym, ap, subst, ◌∙◌, ⊎_elim, arith}
 use Rattle.std.specs.List.{range_with_len}

@@ -2,7 +2,7 @@
 ghost use Rattle.std.specs.Prelude.{◌≡◌, ℕ, ◌<◌, false, is_some, slice_index};
 ghost use Rattle.tables.specs.Register.{register_fault};
 
-// A table of triples. Every subject is present, and a question costs a binary search at most.
+// A table of triples. Every subject is present, and a question costs two binary searches at most.
 #[derive(Drop)]
 pub struct RegisterFile {
     bytes: Vec<u8>,

@@ -1,7 +1,7 @@
 // The five questions that every table answers by its meaning.
 ghost use Rattle.std.specs.Prelude.{◌≡◌, length};
 ghost use Rattle.std.specs.List.{slice_get};
-ghost use Rattle.tables.specs.Meaning.{Meaning, Sound, contains};
+ghost use Rattle.tables.specs.Meaning.{Meaning, Sound};
 
 // A table. Any number may be asked: out of range is absent, and has empty lists.
 pub trait Table {
@@ -27,18 +27,4 @@ pub trait Table {
         ensures { result ≡ slice_get ((meaning self.now).values s p) i };
 
     ghost sound: { (t : Self) → Sound (meaning t) };
-}
-
-// Whether `v` is in the list at subject `s` and property `p`.
-pub fn contains<T: Table>(table: &T, s: usize, p: usize, v: u32) -> bool
-    ensures { result ≡ contains ((T.Table.meaning table.now).values s p) v }
-{
-    let mut i = 0;
-    while let Some(x) = table.value(s, p, i) {
-        if x == v {
-            return true;
-        }
-        i += 1;
-    }
-    false
 }

@@ -2,10 +2,8 @@
 ghost use Rattle.contexts.specs.BookMaking.{relation_of_book};
 ghost use Rattle.contexts.specs.Books.{facts, book_sound};
 
-use super::RowBook;
+use super::{PRESENT, RowBook};
 use crate::context::Context;
-
-const PRESENT: u64 = 1;
 
 impl Context for RowBook {
     ghost relation = { relation_of_book };

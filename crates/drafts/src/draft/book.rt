@@ -16,12 +16,7 @@ impl<L: Table, R: Table> Draft<L, R> {
         let lefts = self.left.subjects();
         let rights = self.right.subjects();
         let mut words = vec![in heap; 0; lefts + rights + lefts * rights]?;
-        if self.freeze(words.as_mut_slice()).is_err() {
-            return unreachable();
-        }
-        match RowBook::open(words, lefts, rights, self.comparisons.len()) {
-            Ok(book) => Ok(book),
-            Err(_) => unreachable(),
-        }
+        self.freeze(words.as_mut_slice()).unwrap();
+        Ok(RowBook::open(words, lefts, rights, self.comparisons.len()).unwrap())
     }
 }

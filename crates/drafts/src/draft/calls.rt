@@ -1,10 +1,8 @@
 // The calls on a draft.
 ghost use Rattle.std.specs.Prelude.{◌≡◌, [], is_ok, if◌then◌else◌, MatchResult};
-ghost use Rattle.std.specs.Option.{option_map};
 ghost use Rattle.records.specs.Refusals.{told};
-ghost use Rattle.records.specs.Questions.{answer_by};
-ghost use Rattle.drafts.specs.Comparisons.{comparison_of, same_comparison};
-ghost use Rattle.drafts.specs.Conditions.{some};
+ghost use Rattle.records.specs.Questions.{Checked, answer_by};
+ghost use Rattle.drafts.specs.Comparisons.{comparison_of};
 ghost use Rattle.drafts.specs.Drafting.{comparison_fault, draft_fault, draft_refusal, with_more};
 
 use super::{Draft, DraftFault, Undrafted};
@@ -21,14 +19,14 @@ impl<L: Table, R: Table> Draft<L, R> {
     pub fn new(heap: Global, left: L, right: R) -> Result<Draft<L, R>, Undrafted<L, R>>
         ensures { MatchResult result (λ d. (d.left ≡ left) × (d.right ≡ right) × (d.comparisons.items ≡ [])) (λ e. (e.left ≡ left) × (e.right ≡ right)) }
     {
-        match Vec::with_capacity(heap, MOST) {
-            Ok(comparisons) => Ok(Draft {
-                left,
-                right,
-                comparisons,
-            }),
-            Err(_) => Err(Undrafted { left, right }),
-        }
+        let Ok(comparisons) = Vec::with_capacity(heap, MOST) else {
+            return Err(Undrafted { left, right });
+        };
+        Ok(Draft {
+            left,
+            right,
+            comparisons,
+        })
     }
 
     // Adds a condition at the end.
@@ -38,12 +36,8 @@ impl<L: Table, R: Table> Draft<L, R> {
         ensures left { self.new.left ≡ self.old.left }
         ensures right { self.new.right ≡ self.old.right }
     {
-        let Some(comparison) = Comparison::of(condition) else {
-            return Err(DraftFault::UnknownKind);
-        };
-        if let Some(fault) = self.fault(comparison) {
-            return Err(fault);
-        }
+        let comparison = Comparison::try_from(condition)?;
+        self.check(comparison)?;
         self.comparisons.push_reserved(comparison);
         Ok(())
     }
@@ -67,32 +61,22 @@ impl<L: Table, R: Table> Draft<L, R> {
         (left, right)
     }
 
-    // The first no to one more comparison.
-    fn fault(&self, comparison: Comparison) -> Option<DraftFault>
-        ensures { option_map draft_refusal result ≡ comparison_fault (L.Table.meaning self.now.left).properties (R.Table.meaning self.now.right).properties self.now.comparisons.items comparison }
+    // Whether one more comparison may be added.
+    fn check(&self, comparison: Comparison) -> Result<(), DraftFault>
+        ensures { Checked draft_refusal (comparison_fault (L.Table.meaning self.now.left).properties (R.Table.meaning self.now.right).properties self.now.comparisons.items comparison) result }
     {
         if comparison.left >= self.left.properties() {
-            Some(DraftFault::UnknownLeft)
-        } else if comparison.right >= self.right.properties() {
-            Some(DraftFault::UnknownRight)
-        } else if has(self.comparisons(), comparison) {
-            Some(DraftFault::Repeated)
-        } else if self.comparisons.len() >= MOST {
-            Some(DraftFault::Full)
-        } else {
-            None
+            return Err(DraftFault::UnknownLeft);
         }
-    }
-}
-
-// Whether a comparison is among others.
-fn has(comparisons: &[Comparison], comparison: Comparison) -> bool
-    ensures { result ≡ some (same_comparison comparison) comparisons.now }
-{
-    for known in comparisons {
-        if *known == comparison {
-            return true;
+        if comparison.right >= self.right.properties() {
+            return Err(DraftFault::UnknownRight);
         }
+        if self.comparisons().contains(&comparison) {
+            return Err(DraftFault::Repeated);
+        }
+        if self.comparisons.len() >= MOST {
+            return Err(DraftFault::Full);
+        }
+        Ok(())
     }
-    false
 }

@@ -9,7 +9,6 @@ ghost use Rattle.drafts.specs.Freezing.{freeze_fault, freeze_refusal, frozen};
 ghost use Rattle.drafts.specs.Live.{live, live_code};
 
 use super::Draft;
-use super::code::pair_code;
 use records::Fault;
 use tables::Table;
 
@@ -57,6 +56,7 @@ impl<L: Table, R: Table> Draft<L, R> {
         requires { length words.old ≡ lefts * rights }
         ensures { words.new ≡ flat_map (λ s. map (live_code (L.Table.meaning self.now.left) (R.Table.meaning self.now.right) self.now.comparisons.items s) (range rights)) (range lefts) }
     {
+        // By offset. Tried: `words.chunks_exact_mut(rights).enumerate()`. After it the check knows of the words only their number, so what the function ensures (`returns`) stays open.
         for s in 0..lefts {
             let start = s * rights;
             self.write_row(s, &mut words[start..start + rights]);
@@ -67,8 +67,8 @@ impl<L: Table, R: Table> Draft<L, R> {
     fn write_row(&self, s: usize, words: &mut [u64])
         ensures { words.new ≡ map (live_code (L.Table.meaning self.now.left) (R.Table.meaning self.now.right) self.now.comparisons.items s) (range (length words.old)) }
     {
-        for t in 0..words.len() {
-            words[t] = pair_code(&self.left, &self.right, self.comparisons.as_slice(), s, t);
+        for (t, word) in words.iter_mut().enumerate() {
+            *word = self.code(s, t);
         }
     }
 }
@@ -77,7 +77,7 @@ impl<L: Table, R: Table> Draft<L, R> {
 fn write_presence<T: Table>(table: &T, words: &mut [u64])
     ensures { words.new ≡ map (λ s. presence_word ((T.Table.meaning table.now).present s)) (range (length words.old)) }
 {
-    for s in 0..words.len() {
-        words[s] = u64::from(table.is_present(s));
+    for (s, word) in words.iter_mut().enumerate() {
+        *word = u64::from(table.is_present(s));
     }
 }

@@ -9,7 +9,7 @@ use records::Kind;
 use std::alloc::{AllocError, Global};
 use tables::Table;
 
-// The lists of all subjects at property `p`, each asked for once.
+// The lists of all subjects at property `p`, each asked for once. A loop. Tried: `map` and `try_collect`, by `search (rules, ranges)`: that each list is its subject's (`returns`) stays open.
 pub(super) fn copy_lists<T: Table>(
     heap: Global,
     table: &T,
@@ -24,7 +24,7 @@ pub(super) fn copy_lists<T: Table>(
     Ok(lists)
 }
 
-// The list at subject `s` and property `p`.
+// The list at subject `s` and property `p`, read to its end, so that its length is not asked too.
 fn copy_list<T: Table>(heap: Global, table: &T, s: usize, p: usize) -> Result<Vec<u32>, AllocError>
     ensures { IfOk result (λ v. v.items ≡ (T.Table.meaning table.now).values s p) }
 {
@@ -49,27 +49,17 @@ pub(super) fn agree(kind: Kind, xs: &[u32], ys: &[u32]) -> bool
 fn share(xs: &[u32], ys: &[u32]) -> bool
     ensures { result ≡ shares xs.now ys.now }
 {
-    for x in xs {
-        if contains(ys, *x) {
-            return true;
-        }
-    }
-    false
+    xs.iter().any(|x| contains(ys, *x))
 }
 
 // Whether every value of `xs` is one of `ys`.
 fn lie_within(xs: &[u32], ys: &[u32]) -> bool
     ensures { result ≡ within xs.now ys.now }
 {
-    for x in xs {
-        if !contains(ys, *x) {
-            return false;
-        }
-    }
-    true
+    xs.iter().all(|x| contains(ys, *x))
 }
 
-// Whether `v` is one of `values`.
+// Whether `v` is one of `values`. A loop: the lists are short, and by the library's `contains` or `any` a whole listing takes at least a tenth more time.
 fn contains(values: &[u32], v: u32) -> bool
     ensures { result ≡ contains values.now v }
 {

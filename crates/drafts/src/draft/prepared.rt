@@ -1,7 +1,9 @@
 // Prepared comparisons: the lists that they compare, asked for once and kept in memory.
-ghost use Rattle.std.specs.Prelude.{◌≡◌, ℕ, ◌+◌, ◌*◌, ◌^◌, ◌<◌, length, IfOk, if◌then◌else◌, slice_index};
+ghost use Rattle.std.specs.Prelude.{◌≡◌, ℕ, ◌+◌, ◌*◌, ◌^◌, ◌<◌, ◌≤◌, length, vec_len, IfOk, if◌then◌else◌, slice_index};
+ghost use Rattle.std.specs.List.{All};
 ghost use Rattle.drafts.specs.Preparing.{AllPrepared, HasLists, Prepares, prepared_holds};
 
+use super::Draft;
 use super::lists::{agree, copy_lists};
 use crate::comparison::Comparison;
 use records::Kind;
@@ -16,20 +18,33 @@ pub(super) struct Prepared {
     right: Vec<Vec<u32>>,
 }
 
-// The comparisons of two tables, prepared in their order.
-pub(super) fn prepare<L: Table, R: Table>(
-    heap: Global,
-    left: &L,
-    right: &R,
-    comparisons: &[Comparison],
-) -> Result<Vec<Prepared>, AllocError>
-    ensures { IfOk result (λ v. AllPrepared (L.Table.meaning left.now) (R.Table.meaning right.now) comparisons.now v.items) }
-{
-    let mut prepared = Vec::new(heap);
-    for comparison in comparisons {
-        prepared.push(Prepared::of(heap, left, right, *comparison)?)?;
+// The comparisons of a draft, prepared in their order, and how many left and right subjects have their lists.
+#[derive(Drop)]
+pub(super) struct PreparedDraft {
+    pub(super) comparisons: Vec<Prepared>,
+    pub(super) lefts: usize,
+    pub(super) rights: usize,
+    ghost few: { vec_len comparisons ≤ 64 },
+    ghost few_subjects: { (lefts ≤ 2 ^ 32) × (rights ≤ 2 ^ 32) },
+    ghost held: { (s : ℕ) → s < lefts → All (HasLists s rights) comparisons.items },
+}
+
+impl<L: Table, R: Table> Draft<L, R> {
+    // Asks the tables for the lists of all comparisons.
+    pub(super) fn prepare(&self, heap: Global) -> Result<PreparedDraft, AllocError>
+        ensures { IfOk result (λ p. (p.lefts ≡ (L.Table.meaning self.now.left).subjects) × (p.rights ≡ (R.Table.meaning self.now.right).subjects) × AllPrepared (L.Table.meaning self.now.left) (R.Table.meaning self.now.right) self.now.comparisons.items p.comparisons.items) }
+    {
+        // A loop. Tried: `map` and `try_collect`: that each one made is prepared from its comparison (`returns`, `invariant_of-result`) stays open.
+        let mut comparisons = Vec::new(heap);
+        for comparison in &self.comparisons {
+            comparisons.push(Prepared::of(heap, &self.left, &self.right, *comparison)?)?;
+        }
+        Ok(PreparedDraft {
+            comparisons,
+            lefts: self.left.subjects(),
+            rights: self.right.subjects(),
+        })
     }
-    Ok(prepared)
 }
 
 impl Prepared {
@@ -56,9 +71,10 @@ impl Prepared {
         ensures { (t : ℕ) → t < length row.old → slice_index row.new t ≡ slice_index row.old t * 2 + (if prepared_holds self.now s t then 1 else 0) }
     {
         let values = self.left[s].as_slice();
-        for t in 0..row.len() {
+        // By number. Tried: `row.iter_mut().zip(&self.right)`. After it the check knows of the row only its length, so what the function ensures (`returns`) stays open.
+        for (t, code) in row.iter_mut().enumerate() {
             let holds = agree(self.kind, values, self.right[t].as_slice());
-            row[t] = row[t] * 2 + u64::from(holds);
+            *code = *code * 2 + u64::from(holds);
         }
     }
 }

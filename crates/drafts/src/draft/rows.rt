@@ -1,41 +1,38 @@
 // Rows of codes: those of one left subject with every right one.
-ghost use Rattle.std.specs.Prelude.{◌≡◌, ℕ, ◌^◌, ◌<◌, ◌≤◌, ◌++◌, map, length, OnOk};
-ghost use Rattle.std.specs.List.{flat_map, AllByRecursion};
+ghost use Rattle.std.specs.Prelude.{◌≡◌, ◌^◌, ◌<◌, ◌≤◌, ◌++◌, map, length, IfOk, OnOk};
+ghost use Rattle.std.specs.List.{flat_map};
 ghost use Rattle.lattice.specs.Sets.{range};
-ghost use Rattle.drafts.specs.Preparing.{HasLists, coded_from, prepared_code};
+ghost use Rattle.drafts.specs.Preparing.{coded_from, prepared_code};
 
-use super::prepared::Prepared;
+use super::prepared::PreparedDraft;
 use contexts::CodedPair;
-use std::alloc::AllocError;
+use std::alloc::{AllocError, Global};
 
-// Adds the pairs of the first `lefts` left subjects that have a code. `row` has a word for each right subject, and is written over.
-pub(super) fn push_rows(
-    pairs: &mut Vec<CodedPair>,
-    prepared: &[Prepared],
-    lefts: usize,
-    row: &mut [u64],
-) -> Result<(), AllocError>
-    requires few { length prepared.now ≤ 64 }
-    requires held { (s : ℕ) → s < lefts → AllByRecursion (HasLists s (length row.old)) prepared.now }
-    requires numbers { (lefts ≤ 2 ^ 32) × (length row.old ≤ 2 ^ 32) }
-    ensures { OnOk result (pairs.new.items ≡ pairs.old.items ++ flat_map (λ s. coded_from s 0 (map (prepared_code prepared.now s) (range (length row.old)))) (range lefts)) }
-{
-    for s in 0..lefts {
-        write_row(prepared, s, row);
-        push_row(pairs, s, row)?;
+impl PreparedDraft {
+    // The pairs that have a code, row by row.
+    pub(super) fn coded_pairs(&self, heap: Global) -> Result<Vec<CodedPair>, AllocError>
+        ensures { IfOk result (λ v. v.items ≡ flat_map (λ s. coded_from s 0 (map (prepared_code self.now.comparisons.items s) (range self.now.rights))) (range self.now.lefts)) }
+    {
+        let mut codes = vec![in heap; 0; self.rights]?;
+        let row = codes.as_mut_slice();
+        let mut pairs = Vec::new(heap);
+        // Lists are asked for by the number of their subject.
+        for s in 0..self.lefts {
+            self.write_row(s, row);
+            push_row(&mut pairs, s, row)?;
+        }
+        Ok(pairs)
     }
-    Ok(())
-}
 
-// Writes the codes of left subject `s`, comparison by comparison, so that one left list meets all right ones in turn.
-fn write_row(prepared: &[Prepared], s: usize, row: &mut [u64])
-    requires few { length prepared.now ≤ 64 }
-    requires held { AllByRecursion (HasLists s (length row.old)) prepared.now }
-    ensures { row.new ≡ map (prepared_code prepared.now s) (range (length row.old)) }
-{
-    row.fill(0);
-    for comparison in prepared {
-        comparison.add_to(s, row);
+    // Writes the codes of left subject `s`, comparison by comparison, so that one left list meets all right ones in turn.
+    fn write_row(&self, s: usize, row: &mut [u64])
+        requires { (s < self.now.lefts) × (length row.old ≡ self.now.rights) }
+        ensures { row.new ≡ map (prepared_code self.now.comparisons.items s) (range self.now.rights) }
+    {
+        row.fill(0);
+        for comparison in &self.comparisons {
+            comparison.add_to(s, row);
+        }
     }
 }
 
@@ -44,8 +41,7 @@ fn push_row(pairs: &mut Vec<CodedPair>, s: usize, row: &[u64]) -> Result<(), All
     requires { (s < 2 ^ 32) × (length row.now ≤ 2 ^ 32) }
     ensures { OnOk result (pairs.new.items ≡ pairs.old.items ++ coded_from s 0 row.now) }
 {
-    for t in 0..row.len() {
-        let code = row[t];
+    for (t, &code) in row.iter().enumerate() {
         if code != 0 {
             pairs.push(CodedPair {
                 left: s as u32,

@@ -45,10 +45,6 @@ impl Picks {
     pub fn at(&self, j: usize) -> Option<usize>
         ensures { result ≡ slice_get (picked self.now) j }
     {
-        if j < self.len() {
-            Some(self.numbers[j])
-        } else {
-            None
-        }
+        self.numbers.get(j).copied()
     }
 }

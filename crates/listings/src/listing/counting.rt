@@ -1,9 +1,11 @@
 // Counting the links of a code, in one pass over the pairs that have one.
 ghost use Rattle.std.specs.Prelude.{◌≡◌, ◌^◌, ◌<◌, ◌≤◌, length};
-ghost use Rattle.std.specs.List.{AllByRecursion};
-ghost use Rattle.listings.specs.Copied.{Within, linking, marked_count, marks_set, left_of, right_of};
+ghost use Rattle.listings.specs.Copied.{linking, marked_count, marks_set, left_of, right_of};
+ghost use Rattle.listings.specs.Counts.{candidate_body};
+ghost use Rattle.listings.specs.Held.{held};
 
-use contexts::CodedPair;
+use super::copying::Copied;
+use records::Candidate;
 
 // The most subjects of a side.
 const MOST: usize = 2048;
@@ -16,41 +18,53 @@ pub(super) struct LinkCounts {
     pub(super) right: u32,
 }
 
-// Counts those of the pairs that have every condition of `x`.
-pub(super) fn count_links(pairs: &[CodedPair], x: u64) -> LinkCounts
-    requires few { length pairs.now < 2 ^ 32 }
-    requires within { AllByRecursion Within pairs.now }
-    ensures links { result.links ≡ length (linking x pairs.now) }
-    ensures left { result.left ≡ marked_count left_of (linking x pairs.now) }
-    ensures right { result.right ≡ marked_count right_of (linking x pairs.now) }
-{
-    let mut lefts = [false; MOST];
-    let mut rights = [false; MOST];
-    let mut links: u32 = 0;
-    for pair in pairs {
-        if pair.code & x == x {
-            links += 1;
-            lefts[pair.left as usize] = true;
-            rights[pair.right as usize] = true;
+impl Copied {
+    // Counts those of the pairs that have every condition of `x`. A loop, since a chain whose closure counts and marks leaves the proof knowing nothing of both.
+    pub(super) fn count_links(&self, x: u64) -> LinkCounts
+        ensures links { result.links ≡ length (linking x self.now.pairs.items) }
+        ensures left { result.left ≡ marked_count left_of (linking x self.now.pairs.items) }
+        ensures right { result.right ≡ marked_count right_of (linking x self.now.pairs.items) }
+    {
+        let mut lefts = [false; MOST];
+        let mut rights = [false; MOST];
+        let mut links: u32 = 0;
+        for pair in &self.pairs {
+            if pair.code & x == x {
+                links += 1;
+                lefts[pair.left as usize] = true;
+                rights[pair.right as usize] = true;
+            }
+        }
+        LinkCounts {
+            links,
+            left: count_set(&lefts),
+            right: count_set(&rights),
         }
     }
-    LinkCounts {
-        links,
-        left: count_set(&lefts),
-        right: count_set(&rights),
+
+    // What is told of the code `x`.
+    pub(super) fn examine(&self, x: u64) -> Candidate
+        requires some { 0 < x }
+        requires below { x < 2 ^ self.now.width.conditions }
+        ensures { result ≡ candidate_body (held self.now) x }
+    {
+        let counts = self.count_links(x);
+        Candidate {
+            code: x,
+            links: counts.links,
+            left_linked: counts.left,
+            right_linked: counts.right,
+            left_present: count_set(self.left_present.as_slice()),
+            right_present: count_set(self.right_present.as_slice()),
+            conditions: x.count_ones(),
+        }
     }
 }
 
 // How many marks are set.
-pub(super) fn count_set(marks: &[bool]) -> u32
+fn count_set(marks: &[bool]) -> u32
     requires { length marks.now ≤ 2048 }
     ensures { result ≡ marks_set marks.now }
 {
-    let mut count: u32 = 0;
-    for mark in marks {
-        if *mark {
-            count += 1;
-        }
-    }
-    count
+    marks.iter().filter(|mark| **mark).count() as u32
 }

@@ -6,7 +6,7 @@ ghost use Rattle.listings.specs.Copied.{linking, subjects_of};
 ghost use Rattle.listings.specs.Pages.{link_bytes};
 
 use contexts::CodedPair;
-use records::{Link, Links, write};
+use records::{Link, Record};
 
 // How many bytes a link takes.
 pub(super) const LINK: usize = 8;
@@ -16,19 +16,10 @@ pub(super) fn write_links(pairs: &[CodedPair], x: u64, from: usize, count: usize
     requires space { 8 * count ≤ length out.old }
     ensures { out.new ≡ put_at 0 (link_bytes (take count (drop from (subjects_of (linking x pairs.now))))) out.old }
 {
-    let mut seen: usize = 0;
-    let mut written: usize = 0;
-    for pair in pairs {
-        if written == count {
-            return;
-        }
-        if pair.code & x == x {
-            if seen >= from {
-                put_link(out, written, pair);
-                written += 1;
-            }
-            seen += 1;
-        }
+    let links = pairs.iter().filter(|pair| pair.code & x == x);
+    // By number. Tried: a `zip` with `out.chunks_exact_mut(LINK)`. After it the check knows of the bytes only their number, so what the function ensures (`returns`) stays open.
+    for (i, pair) in links.skip(from).take(count).enumerate() {
+        put_link(out, i, pair);
     }
 }
 
@@ -41,7 +32,5 @@ fn put_link(out: &mut [u8], i: usize, pair: &CodedPair)
         left: pair.left,
         right: pair.right,
     };
-    if write::<Links>(out, LINK * i, &link).is_err() {
-        unreachable()
-    }
+    link.put(&mut out[LINK * i..]);
 }

@@ -4,7 +4,7 @@ ghost use Rattle.std.specs.Prelude.{◌≡◌, ℕ, ◌+◌, ◌*◌, ◌/◌, �
 ghost use Rattle.std.proofs.Common.{arith, rules};
 ghost use Rattle.std.proofs.lemmas.List.FromFn.{fill_by_all};
 
-use crate::fields::{put_field, take_field};
+use crate::fields::{put_fields, take_field};
 use crate::record::Record;
 
 // A link key candidate with its counts.
@@ -22,12 +22,8 @@ pub struct Candidate {
 // A code takes two fields: how many numbers the lower one tells apart.
 const LOWER: u64 = 4294967296;
 
-pub struct Candidates;
-
-impl Record for Candidates {
+impl Record for Candidate {
     const SIZE: usize = 32;
-
-    type Body = Candidate;
 
     ghost size = { 32 };
 
@@ -53,7 +49,7 @@ impl Record for Candidates {
         Self::SIZE
     }
 
-    fn allows(_body: &Candidate) -> bool {
+    fn is_allowed(&self) -> bool {
         true
     }
 
@@ -78,16 +74,19 @@ impl Record for Candidates {
         })
     }
 
-    fn put(part: &mut [u8], body: &Candidate) {
-        if part.len() >= Self::SIZE {
-            put_field(part, 0, (body.code % LOWER) as u32);
-            put_field(part, 4, (body.code / LOWER) as u32);
-            put_field(part, 8, body.links);
-            put_field(part, 12, body.left_linked);
-            put_field(part, 16, body.right_linked);
-            put_field(part, 20, body.left_present);
-            put_field(part, 24, body.right_present);
-            put_field(part, 28, body.conditions);
-        }
+    fn put(&self, part: &mut [u8]) {
+        let lower = (self.code % LOWER) as u32;
+        let upper = (self.code / LOWER) as u32;
+        let fields = [
+            lower,
+            upper,
+            self.links,
+            self.left_linked,
+            self.right_linked,
+            self.left_present,
+            self.right_present,
+            self.conditions,
+        ];
+        put_fields(part, &fields);
     }
 }

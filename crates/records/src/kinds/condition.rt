@@ -1,10 +1,10 @@
 // Conditions: what a draft is made of.
 ghost use Rattle.std.specs.Prelude.{◌≡◌, ℕ, slice_index, refl};
 ghost use Rattle.std.proofs.Common.{sym, arith, rules};
-ghost use Rattle.records.specs.Kinds.{kind_of, kind_number, condition_fields, condition_of, kind_known};
+ghost use Rattle.records.specs.Kinds.{KindOf, kind_number, condition_fields, condition_of, kind_known};
 ghost use Rattle.std.proofs.lemmas.List.FromFn.{fill_by_all};
 
-use crate::fields::{put_field, take_field};
+use crate::fields::{put_fields, take_field};
 use crate::record::Record;
 
 // How two lists of values are compared: all values agree, or one is shared.
@@ -14,27 +14,34 @@ pub enum Kind {
     Share = 1,
 }
 
-impl Kind {
-    // The kind that a number stands for.
-    pub fn of(number: u32) -> Option<Kind>
-        ensures { result ≡ kind_of number }
-    {
-        match number {
-            0 => Some(Kind::Equal),
-            1 => Some(Kind::Share),
-            _ => None,
-        }
-    }
+// A number that stands for no kind.
+#[derive(Clone, Copy, PartialEq, Eq, Debug)]
+pub struct UnknownKind(pub u32);
 
-    // The number that stands for the kind.
-    pub fn number(self) -> u32
-        ensures { result ≡ kind_number self }
-    {
-        self as u32
+impl TryFrom<u32> for Kind {
+    type Error = UnknownKind;
+
+    ghost try_from_gives = { KindOf };
+
+    fn try_from(number: u32) -> Result<Kind, UnknownKind> {
+        match number {
+            0 => Ok(Kind::Equal),
+            1 => Ok(Kind::Share),
+            _ => Err(UnknownKind(number)),
+        }
     }
 }
 
-// A left property compared with a right one. The kind is the number that stands in the bytes, known or not.
+impl From<Kind> for u32 {
+    ghost from_gives = { λ kind number. number ≡ kind_number kind };
+
+    fn from(kind: Kind) -> u32 {
+        kind as u32
+    }
+}
+
+// A left property compared with a right one.
+// The kind is the number that stands in the bytes, known or not: whoever writes a record or adds to a draft may hand in any, and is refused.
 #[derive(Clone, Copy, PartialEq, Eq, Debug)]
 pub struct Condition {
     pub kind: u32,
@@ -42,12 +49,8 @@ pub struct Condition {
     pub right: u32,
 }
 
-pub struct Conditions;
-
-impl Record for Conditions {
+impl Record for Condition {
     const SIZE: usize = 12;
-
-    type Body = Condition;
 
     ghost size = { 12 };
 
@@ -69,8 +72,8 @@ impl Record for Conditions {
         Self::SIZE
     }
 
-    fn allows(body: &Condition) -> bool {
-        Kind::of(body.kind).is_some()
+    fn is_allowed(&self) -> bool {
+        Kind::try_from(self.kind).is_ok()
     }
 
     fn parse(part: &[u8]) -> Option<Condition> {
@@ -80,11 +83,7 @@ impl Record for Conditions {
         Some(Condition { kind, left, right })
     }
 
-    fn put(part: &mut [u8], body: &Condition) {
-        if part.len() >= Self::SIZE {
-            put_field(part, 0, body.kind);
-            put_field(part, 4, body.left);
-            put_field(part, 8, body.right);
-        }
+    fn put(&self, part: &mut [u8]) {
+        put_fields(part, &[self.kind, self.left, self.right]);
     }
 }

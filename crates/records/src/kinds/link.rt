@@ -4,7 +4,7 @@ ghost use Rattle.std.proofs.Common.{sym, arith, rules};
 ghost use Rattle.std.specs.Prelude.{ℕ, slice_index, refl};
 ghost use Rattle.std.proofs.lemmas.List.FromFn.{fill_by_all};
 
-use crate::fields::{put_field, take_field};
+use crate::fields::{put_fields, take_field};
 use crate::record::Record;
 
 // A left subject tied to a right one.
@@ -14,12 +14,8 @@ pub struct Link {
     pub right: u32,
 }
 
-pub struct Links;
-
-impl Record for Links {
+impl Record for Link {
     const SIZE: usize = 8;
-
-    type Body = Link;
 
     ghost size = { 8 };
 
@@ -41,7 +37,7 @@ impl Record for Links {
         Self::SIZE
     }
 
-    fn allows(_body: &Link) -> bool {
+    fn is_allowed(&self) -> bool {
         true
     }
 
@@ -51,10 +47,7 @@ impl Record for Links {
         Some(Link { left, right })
     }
 
-    fn put(part: &mut [u8], body: &Link) {
-        if part.len() >= Self::SIZE {
-            put_field(part, 0, body.left);
-            put_field(part, 4, body.right);
-        }
+    fn put(&self, part: &mut [u8]) {
+        put_fields(part, &[self.left, self.right]);
     }
 }

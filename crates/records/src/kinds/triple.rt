@@ -4,23 +4,19 @@ ghost use Rattle.std.proofs.Common.{sym, arith, rules};
 ghost use Rattle.std.specs.Prelude.{ℕ, slice_index, refl};
 ghost use Rattle.std.proofs.lemmas.List.FromFn.{fill_by_all};
 
-use crate::fields::{put_field, take_field};
+use crate::fields::{put_fields, take_field};
 use crate::record::Record;
 
 // A subject has a value at a property.
-#[derive(Clone, Copy, PartialEq, Eq, Debug)]
+#[derive(Clone, Copy, PartialEq, Eq, PartialOrd, Ord, Debug)]
 pub struct Triple {
     pub subject: u32,
     pub property: u32,
     pub value: u32,
 }
 
-pub struct Triples;
-
-impl Record for Triples {
+impl Record for Triple {
     const SIZE: usize = 12;
-
-    type Body = Triple;
 
     ghost size = { 12 };
 
@@ -42,7 +38,7 @@ impl Record for Triples {
         Self::SIZE
     }
 
-    fn allows(_body: &Triple) -> bool {
+    fn is_allowed(&self) -> bool {
         true
     }
 
@@ -57,11 +53,7 @@ impl Record for Triples {
         })
     }
 
-    fn put(part: &mut [u8], body: &Triple) {
-        if part.len() >= Self::SIZE {
-            put_field(part, 0, body.subject);
-            put_field(part, 4, body.property);
-            put_field(part, 8, body.value);
-        }
+    fn put(&self, part: &mut [u8]) {
+        put_fields(part, &[self.subject, self.property, self.value]);
     }
 }

@@ -8,8 +8,9 @@ ghost use Rattle.tables.specs.Spans.{values_outside, values_short, values_small}
 ghost use Rattle.tables.specs.Triples.{Allowed, allowed_from};
 
 use super::RegisterFile;
-use super::reading::{KEYS, SIZE, key_at, triple_at};
+use super::reading::{KEYS, SIZE, is_below, triple_at};
 use crate::table::Table;
+use std::ops::Range;
 
 // The number of the first triple whose key is not below `key`.
 fn floor(bytes: &[u8], key: u64) -> usize
@@ -18,30 +19,21 @@ fn floor(bytes: &[u8], key: u64) -> usize
     ensures below { (k : ℕ) → k < result → key_at bytes.now k < key }
     ensures from { (k : ℕ) → result ≤ k → k < length bytes.now / 12 → key ≤ key_at bytes.now k }
 {
-    let mut low = 0;
-    let mut high = bytes.len() / SIZE;
-    while low < high {
-        let middle = low + (high - low) / 2;
-        if key_at(bytes, middle) < key {
-            low = middle + 1;
-        } else {
-            high = middle;
-        }
-    }
-    low
+    let (records, _) = bytes.as_chunks::<SIZE>();
+    records.partition_point(|record| is_below(record, key))
 }
 
 impl RegisterFile {
-    // The triples of subject `s` and property `p`: the number of the first, and of the one after the last.
-    fn span(&self, s: usize, p: usize) -> (usize, usize)
-        ensures { Span self.now.bytes.items s p result.0 result.1 }
+    // The numbers of the triples of subject `s` and property `p`.
+    fn span(&self, s: usize, p: usize) -> Range<usize>
+        ensures { Span self.now.bytes.items s p result.start result.end }
     {
         if s >= self.subjects || p >= self.properties {
-            return (0, 0);
+            return 0..0;
         }
         let bytes = self.bytes.as_slice();
         let key = s as u64 * KEYS + p as u64;
-        (floor(bytes, key), floor(bytes, key + 1))
+        floor(bytes, key)..floor(bytes, key + 1)
     }
 }
 
@@ -76,14 +68,13 @@ impl Table for RegisterFile {
     }
 
     fn count(&self, s: usize, p: usize) -> usize {
-        let (low, high) = self.span(s, p);
-        high - low
+        self.span(s, p).len()
     }
 
     fn value(&self, s: usize, p: usize, i: usize) -> Option<u32> {
-        let (low, high) = self.span(s, p);
-        if i < high - low {
-            Some(triple_at(self.bytes.as_slice(), low + i).value)
+        let span = self.span(s, p);
+        if i < span.len() {
+            Some(triple_at(self.bytes.as_slice(), span.start + i).value)
         } else {
             None
         }

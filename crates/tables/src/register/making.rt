@@ -12,26 +12,11 @@ use records::Triple;
 
 const MOST_RECORDS: usize = 65536;
 
-// Whether triple `a` comes before triple `b`.
-fn is_before(a: Triple, b: Triple) -> bool
-    ensures { result ≡ comes_before a b }
-{
-    if a.subject != b.subject {
-        return a.subject < b.subject;
-    }
-    if a.property != b.property {
-        return a.property < b.property;
-    }
-    a.value < b.value
-}
-
+// Triples are ordered by subject, then by property, then by value, which is the order of their fields.
 fn does_follow(before: Option<Triple>, triple: Triple) -> bool
     ensures { result ≡ follows before triple }
 {
-    match before {
-        Some(before) => is_before(before, triple),
-        None => true,
-    }
+    before.is_none_or(|before| before < triple)
 }
 
 // Whether record number k may stand after the record before it.
@@ -75,6 +60,7 @@ fn check(bytes: &[u8], subjects: usize, properties: usize) -> Result<(), Registe
         return Err(RegisterFault::TooManyRecords);
     }
     let mut before = None;
+    // A triple is read by its number, which is also what its refusal tells.
     for k in 0..count {
         let triple = triple_at(bytes, k);
         check_record(k, before, triple, subjects, properties)?;
@@ -93,6 +79,7 @@ impl RegisterFile {
         ensures answer { MatchResult result (RegisterMade bytes.items subjects properties) (RegisterRefused bytes.items subjects properties) }
         ensures ordered { IfOk result (λ t. Ordered t.subjects t.properties (triples_in t.bytes.items)) }
     {
+        // Both arms take the bytes, so `?` does not do here. A tick sheet is made by the same match, of types of its own.
         match check(bytes.as_slice(), subjects, properties) {
             Ok(()) => Ok(RegisterFile {
                 bytes,

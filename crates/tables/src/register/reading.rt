@@ -1,8 +1,8 @@
 // One triple of a register file, and its place in the order.
-ghost use Rattle.std.specs.Prelude.{◌≡◌, ◌/◌, ◌<◌, length};
-ghost use Rattle.tables.specs.RegisterSearch.{triple_at, key_at};
+ghost use Rattle.std.specs.Prelude.{nat_lt, ◌≡◌, ◌/◌, ◌<◌, length};
+ghost use Rattle.tables.specs.RegisterSearch.{triple_at, key_in};
 
-use records::{Triple, Triples, read};
+use records::{Triple, read};
 
 // How many bytes a triple takes.
 pub(super) const SIZE: usize = 12;
@@ -15,17 +15,13 @@ pub(super) fn triple_at(bytes: &[u8], k: usize) -> Triple
     requires { k < length bytes.now / 12 }
     ensures { result ≡ triple_at bytes.now k }
 {
-    match read::<Triples>(bytes, k) {
-        Ok(triple) => triple,
-        Err(_) => unreachable(),
-    }
+    read(bytes, k).unwrap()
 }
 
-// Where triple number k stands in the order of subjects and properties.
-pub(super) fn key_at(bytes: &[u8], k: usize) -> u64
-    requires { k < length bytes.now / 12 }
-    ensures { result ≡ key_at bytes.now k }
+// Whether the triple of a record comes before `key` in the order of subjects and properties.
+pub(super) fn is_below(bytes: &[u8; SIZE], key: u64) -> bool
+    ensures { result ≡ nat_lt (key_in bytes.now) key }
 {
-    let triple = triple_at(bytes, k);
-    u64::from(triple.subject) * KEYS + u64::from(triple.property)
+    let triple = read::<Triple>(bytes, 0).unwrap();
+    u64::from(triple.subject) * KEYS + u64::from(triple.property) < key
 }

@@ -5,19 +5,14 @@ ghost use Rattle.tables.specs.SheetMaking.{SheetMade, SheetRefused};
 ghost use Rattle.tables.specs.SheetRefusals.{sheet_refusal};
 ghost use Rattle.tables.specs.TickSheet.{all_zero, row_fault, sheet_fault, Consistent};
 
-use super::reading::{ABSENT, PRESENT, row_of};
+use super::reading::{ABSENT, PRESENT};
 use super::{SheetFault, SheetRefusal, TickSheet};
 use crate::bounds::{MOST_PROPERTIES, MOST_SUBJECTS};
 
 fn is_all_zero(words: &[u64]) -> bool
     ensures { result ≡ all_zero words.now }
 {
-    for word in words {
-        if *word != 0 {
-            return false;
-        }
-    }
-    true
+    words.iter().all(|word| *word == 0)
 }
 
 // Whether a subject may have this presence word, and these words behind it.
@@ -46,8 +41,7 @@ fn check(words: &[u64], subjects: usize, properties: usize) -> Result<(), SheetF
     if words.len() != subjects * (properties + 1) {
         return Err(SheetFault::WrongLength);
     }
-    for s in 0..subjects {
-        let row = row_of(words, properties, s);
+    for (s, row) in words.chunks_exact(properties + 1).enumerate() {
         check_row(s, row[0], &row[1..])?;
     }
     Ok(())
@@ -63,6 +57,7 @@ impl TickSheet {
         ensures answer { MatchResult result (SheetMade words.items subjects properties) (SheetRefused words.items subjects properties) }
         ensures consistent { IfOk result (λ t. Consistent t.subjects t.properties t.words.items) }
     {
+        // Both arms take the words, so `?` does not do here.
         match check(words.as_slice(), subjects, properties) {
             Ok(()) => Ok(TickSheet {
                 words,

@@ -32,14 +32,5 @@ pub(super) fn tick_count(word: u64) -> usize
 pub(super) fn tick_at(word: u64, i: usize) -> Option<u32>
     ensures { result ≡ slice_get (ticked word) i }
 {
-    let mut left = i;
-    for value in 0..TICKS {
-        if (word >> value) % 2 == 1 {
-            if left == 0 {
-                return Some(value);
-            }
-            left -= 1;
-        }
-    }
-    None
+    (0..TICKS).filter(|value| (word >> *value) % 2 == 1).nth(i)
 }

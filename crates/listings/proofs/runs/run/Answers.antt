@@ -1,14 +1,9 @@
-use Rattle.std.proofs.Common.{ℕ, map, vec_items, ap, ◌∙◌, arith}
+use Rattle.std.proofs.Common.{ℕ, map, vec_items, ap, ◌∙◌}
 use Rattle.contexts.specs.Relation.{Relation}
 use Rattle.listings.specs.Replies.{replies}
 use Rattle.listings.specs.View.{level, ask_of}
 use Rattle.listings.proofs.Answering.{ran}
 use Rattle.listings.proofs.runs.run.Goals as goal
-
-pub answer_all-answers-requires : goal.answer_all-answers-requires
-answer_all-answers-requires g c =
-    let empty = c.in-Ok.ensures in
-    record { space = omega (arith, c.len.ensures, empty.len, empty.capacity); none = empty.items }
 
 pub returns-in-Ok-start : goal.returns-in-Ok-start
 returns-in-Ok-start g c =

@@ -14,6 +14,6 @@ returns g c =
     let fs = g.K.Record.fields b in
     let space : at + size ≤ length xs = omega arith in
     record {
-      answer = write_yes (g.K.Record.allowed b) size at xs space (sym c.if-not-allows.ensures);
+      answer = write_yes (g.K.Record.allowed b) size at xs space (sym c.if-not-is_allowed.ensures);
       after = lent_written at size xs (bytes_of fs) (length_bytes_of fs ∙ g.met.K.Record.whole b) space c.put.ensures;
     }

@@ -1,32 +1,32 @@
-use Rattle.std.proofs.Common.{◌≡◌, get_or, Ok, ap, ◌∙◌, subst}
-use Rattle.listings.specs.Calls.{take_at}
+use Rattle.std.proofs.Common.{◌≡◌, get_or, Ok, Result, sym, ap, ◌∙◌}
+use Rattle.records.specs.Refusals.{told, read_refusal}
 use Rattle.listings.specs.Candidates.{candidates}
 use Rattle.listings.specs.Counts.{candidate_body}
-use Rattle.listings.specs.Replies.{reply}
 use Rattle.listings.specs.View.{relation_of, level, taken_of}
 use Rattle.listings.specs.declared.call.Taken.{Taken}
+use Rattle.listings.specs.declared.fault.TakeFault.{TakeFault}
 use Rattle.report.specs.Lines.{candidate_line}
-use Rattle.report.proofs.Telling.{blank, handed_tells, ended_tells, never_refused, reads_candidate}
+use Rattle.report.proofs.Telling.{handed_tells, ended_tells, always_taken, reads_candidate}
 use Rattle.report.proofs.candidates.next_line.Goals as goal
 
-pub unreachable-requires-in-Err : goal.unreachable-requires-in-Err
-unreachable-requires-in-Err g c =
+pub unwrap-requires : goal.unwrap-requires
+unwrap-requires g c =
     let l = c.args.listing.now in
-    never_refused (relation_of l) (level l) _ _ c.in-Err.ensures.reply
+    always_taken (relation_of l) (level l) c.take.result c.take.new.out c.take.ensures.reply
 
-pub returns-in_ok-candidate_line-in-Ok-read : goal.returns-in_ok-candidate_line-in-Ok-read
-returns-in_ok-candidate_line-in-Ok-read g c =
+pub returns-in_ok-candidate_line-in-Handed-clause-told : goal.returns-in_ok-candidate_line-in-Handed-clause-told
+returns-in_ok-candidate_line-in-Handed-clause-told g c =
     let l = c.args.listing.now in
-    let e = c.in-Ok.ensures in
-    let by = subst (λ (t : Taken). taken_of (Ok t) c.take.new.out ≡ reply (relation_of l) (level l) (take_at 0 blank)) c.in-Handed.is e.reply in
-    let told = handed_tells (relation_of l) (level l) _ by in
-    let answer = c.in-Ok-read.ensures ∙ reads_candidate (relation_of l) (get_or (candidates (relation_of l)) (level l) 0) _ told.1 in
-    let read : c.in-Ok-read.candidate ≡ candidate_body (relation_of l) (get_or (candidates (relation_of l)) (level l) 0) = cc in
-    record { same = e.same; kept = e.kept; level = e.level; told = (told.0, c.in_ok-candidate_line-in-Ok-read.ensures ∙ ap candidate_line read) }
+    let out = c.take.new.out in
+    let taken = ap (λ (r : Result Taken TakeFault). taken_of r out) (sym (c.unwrap.ensures ∙ ap Ok c.in-Handed.is)) ∙ c.take.ensures.reply in
+    let handed = handed_tells (relation_of l) (level l) out taken in
+    let back = reads_candidate (relation_of l) (get_or (candidates (relation_of l)) (level l) 0) out handed.1 in
+    let answer = sym (ap (told read_refusal) c.unwrap-candidate.ensures) ∙ c.read.ensures ∙ back in
+    let read : c.unwrap-candidate.result ≡ candidate_body (relation_of l) (get_or (candidates (relation_of l)) (level l) 0) = cc in
+    (handed.0, c.in_ok-candidate_line-in-Handed.ensures ∙ ap candidate_line read)
 
-pub returns-in-Ended : goal.returns-in-Ended
-returns-in-Ended g c =
+pub returns-in-Ended-clause-told : goal.returns-in-Ended-clause-told
+returns-in-Ended-clause-told g c =
     let l = c.args.listing.now in
-    let e = c.in-Ok.ensures in
-    let by = subst (λ (t : Taken). taken_of (Ok t) c.take.new.out ≡ reply (relation_of l) (level l) (take_at 0 blank)) c.in-Ended.is e.reply in
-    record { same = e.same; kept = e.kept; level = e.level; told = ended_tells (relation_of l) (level l) _ by }
+    let out = c.take.new.out in
+    ended_tells (relation_of l) (level l) out (ap (λ (r : Result Taken TakeFault). taken_of r out) (sym (c.unwrap.ensures ∙ ap Ok c.in-Ended.is)) ∙ c.take.ensures.reply)

@@ -3,7 +3,7 @@ use Rattle.records.specs.Kinds.{condition_of}
 use Rattle.records.specs.Reading.{bodies}
 use Rattle.drafts.specs.declared.comparison.Comparison.{Comparison}
 use Rattle.report.specs.Drafts.{condition_at, conditions_fault, drafted}
-use Rattle.report.specs.Files.{file_refusal}
+use Rattle.std.proofs.lemmas.Result.{err_from_is_err_and}
 use Rattle.report.proofs.Adding.{fault_more, fault_here, drafted_more, none_left, same_tables}
 use Rattle.report.proofs.draft.add_records.Goals as goal
 
@@ -14,7 +14,7 @@ loop-i-preserved c =
     let i = c.loop-i.i in
     let cs = vec_items c.loop-i.draft.comparisons in
     let inv = c.loop-i.invariant in
-    let added = c.in-Ok.ensures in
+    let added = c.in_ok-add_record.ensures in
     let lm = first.left.properties in
     let rm = first.right.properties in
     let rest = drop (i + 1) (bodies condition_of 12 xs) in
@@ -25,21 +25,16 @@ loop-i-preserved c =
       added.right ∙ inv.3,
     )
 
-pub returns-in-Err : goal.returns-in-Err
-returns-in-Err c =
+pub returns-in_err-add_record-clause-answer : goal.returns-in_err-add_record-clause-answer
+returns-in_err-add_record-clause-answer c =
     let first = c.args.draft.now in
     let xs = c.args.bytes.now in
     let i = c.loop-i.i in
     let cs = vec_items c.loop-i.draft.comparisons in
     let inv = c.loop-i.invariant in
-    let refused = c.in-Err.ensures in
-    let here = same_tables i cs (condition_at xs i) inv.2 inv.3 ∙ refused.answer in
-    record {
-      answer = inv.0 ∙ fault_here first.left.properties first.right.properties i cs xs (file_refusal c.in-Err.fault) c.loop-i-test.true here;
-      after = tt;
-      left = refused.left ∙ inv.2;
-      right = refused.right ∙ inv.3;
-    }
+    let here = same_tables i cs (condition_at xs i) inv.2 inv.3 ∙ c.in_err-add_record.ensures.answer in
+    let p = err_from_is_err_and c.from_residual.result c.from_residual.ensures.1 in
+    rw (p.1, p.2) (inv.0 ∙ fault_here first.left.properties first.right.properties i cs xs _ c.loop-i-test.true here)
 
 pub returns : goal.returns
 returns c =

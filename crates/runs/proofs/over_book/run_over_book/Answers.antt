@@ -1,4 +1,4 @@
-use Rattle.std.proofs.Common.{vec_items, subst}
+use Rattle.std.proofs.Common.{vec_items, subst, ap₂}
 use Rattle.contexts.specs.Relation.{Relation}
 use Rattle.drafts.proofs.Likeness.{live_alike}
 use Rattle.listings.specs.Runs.{Ran}
@@ -12,7 +12,7 @@ returns-in-Ok-run g c =
     let right = g.R.Table.meaning draft.right in
     let comparisons = vec_items draft.comparisons in
     let calls = vec_items c.args.calls in
-    let answers = vec_items c.in-Ok-run.answered.answers in
-    let back = c.into_tables-left.ensures in
+    let answers = vec_items c.in-Ok-run.field-0.answers in
+    let back = c.into_tables-context.ensures in
     let ran = subst (λ (r : Relation). Ran r calls answers) c.in-Ok.ensures c.in-Ok-run.ensures.1 in
-    (back.0, back.1, ran_over left right comparisons calls answers (live_alike left right comparisons) ran)
+    (ap₂ (λ (l : g.row.L.Denot) (r : g.row.R.Denot). (l, r)) back.0 back.1, ran_over left right comparisons calls answers (live_alike left right comparisons) ran)

@@ -1,21 +1,18 @@
-use Rattle.std.proofs.Common.{List, sym, ap, ◌∙◌}
-use Rattle.std.proofs.lemmas.List.{at_drop_all}
+use Rattle.std.proofs.Common.{rules, ap, ◌∙◌, sym}
+use Rattle.std.proofs.lemmas.List.Sorted.{answers_always}
 use Rattle.layers.specs.declared.folding_list.Folding.{Folding}
-use Rattle.layers.specs.Foldings.{folding, becomes}
-use Rattle.layers.proofs.FoldingSteps.{becomes_here, becomes_next}
+use Rattle.layers.proofs.FoldingSearch.{searched}
 use Rattle.layers.proofs.folding_list.FoldingList.becomes.Goals as goal
 
-pub returns-then-entry-v : goal.returns-then-entry-v
-returns-then-entry-v c =
-    sym (becomes_here _ _ _ (folding 0 0) c.loop-entry-test.true c.if-entry-v.true)
-    ∙ c.loop-entry.invariant
-    ∙ ap (λ (es : List Folding). becomes es c.args.v) c.as_slice-entries.ensures.value
+pub returns-in-Ok : goal.returns-in-Ok
+returns-in-Ok c =
+    let facts = c.binary_search_by_key.ensures in
+    let by_key = facts.position (λ entry. entry.from) (answers_always _ _ _ (λ f a r g called. search rules)) in
+    let found = rw c.deref.ensures.value at (rw c.in-Ok.is at (searched _ (rw c.deref.ensures.value c.args.self.now.ascending) c.args.v _ facts.bound by_key)) in
+    ap (λ (entry : Folding). entry.to) c.index.ensures ∙ sym (found c.index.result.now)
 
-pub loop-entry-preserved : goal.loop-entry-preserved
-loop-entry-preserved c = sym (becomes_next _ _ _ (folding 0 0) c.loop-entry-test.true c.if-entry-v.false) ∙ c.loop-entry.invariant
-
-pub returns : goal.returns
-returns c =
-    sym (at_drop_all (λ (es : List Folding). becomes es c.args.v) _ _ c.loop-entry-test.false)
-    ∙ c.loop-entry.invariant
-    ∙ ap (λ (es : List Folding). becomes es c.args.v) c.as_slice-entries.ensures.value
+pub returns-in-Err : goal.returns-in-Err
+returns-in-Err c =
+    let facts = c.binary_search_by_key.ensures in
+    let by_key = facts.position (λ entry. entry.from) (answers_always _ _ _ (λ f a r g called. search rules)) in
+    sym (rw c.deref.ensures.value at (rw c.in-Err.is at (searched _ (rw c.deref.ensures.value c.args.self.now.ascending) c.args.v _ facts.bound by_key)))

@@ -11,5 +11,5 @@ pub returns : goal.returns
 unfolding reply
 returns g c =
     let l = c.args.self.now in
-    ap (λ (x : ℕ). tallied l.handed x l.ended) l.reached.1
+    ap (λ (x : ℕ). tallied l.tally.handed x l.tally.ended) l.reached.1
     ∙ ap₂ (λ (n : ℕ) (end : Bool). tallied n (last_of (candidates (relation_of l)) n) end) (sym (level_handed l)) (sym (level_ended l))
