@@ -1,16 +1,17 @@
 // The conditions that a round asks for, and which of them a draft should take.
-use crate::facts::MOST;
+use crate::facts::{MOST, SHARE};
 use crate::random::Random;
+use crate::refusal::Refusal;
 use crate::trouble::Trouble;
 use drafts::DraftFault;
-use records::{Condition, Kind};
+use records::Condition;
 use std::alloc::Global;
 
 // A condition, and the answer that it is due.
 #[derive(Clone, Copy)]
 pub struct Asked {
     pub condition: Condition,
-    pub due: Result<(), DraftFault>,
+    pub due: Result<(), Refusal<DraftFault>>,
 }
 
 // What is asked for in turn, and what of it is in the draft then.
@@ -20,24 +21,24 @@ pub struct Conditions {
     pub accepted: Vec<Condition>,
 }
 
-// The answer that a condition is due.
+// The answer that a condition is due. Kinds are told apart by their numbers, as the library is not asked.
 fn due(
     condition: Condition,
     lefts: usize,
     rights: usize,
     known: &[Condition],
-) -> Result<(), DraftFault> {
-    if Kind::try_from(condition.kind).is_err() {
-        return Err(DraftFault::UnknownKind);
+) -> Result<(), Refusal<DraftFault>> {
+    if condition.kind > SHARE {
+        return Err(Refusal::new(DraftFault::UnknownKind, 30));
     }
     if condition.left as usize >= lefts {
-        return Err(DraftFault::UnknownLeft);
+        return Err(Refusal::new(DraftFault::UnknownLeft, 15));
     }
     if condition.right as usize >= rights {
-        return Err(DraftFault::UnknownRight);
+        return Err(Refusal::new(DraftFault::UnknownRight, 16));
     }
     if known.contains(&condition) {
-        return Err(DraftFault::Repeated);
+        return Err(Refusal::new(DraftFault::Repeated, 17));
     }
     Ok(())
 }

@@ -1,12 +1,17 @@
 // What the enumeration asks the tables for: present pairs, and which conditions hold for each.
 use crate::list::{List, equal, share};
 use crate::trouble::Trouble;
-use records::{Condition, Kind};
+use records::Condition;
 use std::alloc::Global;
 use tables::Table;
 
 // The most conditions of a round, so that there are at most 128 sets.
 pub const MOST: usize = 7;
+
+// The numbers of the two kinds of condition.
+pub const EQUAL: u32 = 0;
+
+pub const SHARE: u32 = 1;
 
 // Two present subjects, and which of the conditions hold for them.
 #[derive(Clone, Copy, PartialEq, Eq, Debug)]
@@ -34,7 +39,7 @@ pub struct Facts {
     pub pairs: Vec<Pair>,
 }
 
-// Equal or share, by the kind; only known kinds are accepted.
+// Equal or share, by the number of the kind; only known kinds are accepted.
 fn does_hold<L: Table, R: Table>(
     condition: Condition,
     left: &L,
@@ -44,10 +49,10 @@ fn does_hold<L: Table, R: Table>(
 ) -> bool {
     let left = List::new(left, s, condition.left as usize);
     let right = List::new(right, t, condition.right as usize);
-    match Kind::try_from(condition.kind) {
-        Ok(Kind::Equal) => equal(&left, &right),
-        Ok(Kind::Share) => share(&left, &right),
-        Err(_) => false,
+    match condition.kind {
+        EQUAL => equal(&left, &right),
+        SHARE => share(&left, &right),
+        _ => false,
     }
 }
 

@@ -7,6 +7,7 @@ mod enumeration;
 mod facts;
 mod list;
 mod random;
+mod refusal;
 mod round;
 mod sample;
 mod sets;

@@ -1,6 +1,7 @@
 // A whole run of calls on a listing, each compared with the enumeration.
 use crate::enumeration::Found;
 use crate::facts::{Facts, Pair};
+use crate::refusal::Refusal;
 use crate::trouble::{Trouble, expect};
 use listings::{Listing, PageFault, TakeFault, Taken, Tally, TotalFault};
 use records::{Candidate, Link, read};
@@ -34,28 +35,44 @@ fn check_tally<C>(listing: &Listing<C>, due: Tally) -> Result<(), Trouble> {
 fn check_short_take<C>(listing: &mut Listing<C>) -> Result<(), Trouble> {
     let mut buffer = [MARK; SPACE];
     let taken = listing.take(SPACE - CANDIDATE + 1, &mut buffer);
-    expect(taken == Err(TakeFault::NoSpace), "a take without space")?;
+    expect(
+        Refusal::new(TakeFault::NoSpace, 24).is_told_by(&taken),
+        "a take without space",
+    )?;
     expect(is_marked(&buffer, 0, 0), "the buffer of a refused take")
+}
+
+// A page before the first candidate.
+fn no_candidate() -> Refusal<PageFault> {
+    Refusal::new(PageFault::NoCandidate, 25)
 }
 
 fn check_refused_page<C>(
     listing: &Listing<C>,
     from: usize,
     buffer: &mut [u8],
-    fault: PageFault,
+    refusal: Refusal<PageFault>,
 ) -> Result<(), Trouble> {
-    expect(listing.page(from, buffer) == Err(fault), "a page to refuse")?;
+    expect(
+        refusal.is_told_by(&listing.page(from, buffer)),
+        "a page to refuse",
+    )?;
     expect(is_marked(buffer, 0, 0), "the buffer of a refused page")
+}
+
+// Before a take has said "ended" there is no total.
+fn check_early_total<C>(listing: &Listing<C>) -> Result<(), Trouble> {
+    expect(
+        Refusal::new(TotalFault::NotEnded, 28).is_told_by(&listing.total()),
+        "a total before the end",
+    )
 }
 
 // Before the first take there is nothing to tell.
 fn check_start<C>(listing: &mut Listing<C>) -> Result<(), Trouble> {
     check_tally(listing, Tally::default())?;
-    expect(
-        listing.total() == Err(TotalFault::NotEnded),
-        "a total before the end",
-    )?;
-    check_refused_page(listing, 0, &mut [MARK; PAGE], PageFault::NoCandidate)?;
+    check_early_total(listing)?;
+    check_refused_page(listing, 0, &mut [MARK; PAGE], no_candidate())?;
     check_short_take(listing)?;
     check_tally(listing, Tally::default())
 }
@@ -152,9 +169,14 @@ fn check_pages<C>(listing: &Listing<C>, links: &[Pair]) -> Result<(), Trouble> {
         listing,
         links.len().saturating_add(1),
         &mut [MARK; PAGE],
-        PageFault::PastLinks,
+        Refusal::new(PageFault::PastLinks, 26),
     )?;
-    check_refused_page(listing, 0, &mut [MARK; LINK - 1], PageFault::NoSpace)
+    check_refused_page(
+        listing,
+        0,
+        &mut [MARK; LINK - 1],
+        Refusal::new(PageFault::NoSpace, 27),
+    )
 }
 
 // Takes say "ended" from here on, and write nothing.
@@ -186,7 +208,7 @@ fn check_end<C>(listing: &mut Listing<C>, expected: &[Found]) -> Result<(), Trou
         }
         None => {
             check_ended(listing, 0, 0)?;
-            check_refused_page(listing, 0, &mut [MARK; PAGE], PageFault::NoCandidate)?;
+            check_refused_page(listing, 0, &mut [MARK; PAGE], no_candidate())?;
             check_ended(listing, 0, 0)
         }
     }
@@ -209,10 +231,7 @@ pub fn check_listing<C>(
             ended: false,
         };
         check_tally(listing, due)?;
-        expect(
-            listing.total() == Err(TotalFault::NotEnded),
-            "a total before the end",
-        )?;
+        check_early_total(listing)?;
     }
     check_end(listing, expected)
 }

@@ -1,13 +1,31 @@
 -- The first word that fails its test.
-use Rattle.std.proofs.Common.{◌≡◌, ℕ, zero, suc, ◌+◌, ◌<◌, ◌≤◌, Bool, true, false, List, length, take, Some, None, Option, MatchOption, Ok, Err, refl, ap, ◌∙◌, arith}
+use Rattle.std.proofs.Common.{◌≡◌, ℕ, zero, suc, ◌+◌, ◌-◌, ◌<◌, ◌≤◌, Bool, true, false, List, length, take, Some, None, Option, MatchOption, Ok, Err, refl, ap, ◌∙◌, arith}
 use Rattle.std.specs.List.{AllWithin, HoldsAt}
 use Rattle.std.specs.Option.{option_map_or}
+use Rattle.std.proofs.lemmas.Bool.{cond-true, cond-false}
 use Rattle.std.proofs.lemmas.Bool.Decides.{nat_tests}
 use Rattle.std.proofs.lemmas.Grind.{common_steps}
 use Rattle.records.specs.Questions.{Checked}
 use Rattle.contexts.specs.declared.row_book.BookFault.{BookFault}
 use Rattle.contexts.specs.BookOpening.{first_failing, presence_known}
 use Rattle.contexts.specs.BookRefusals.{book_refusal}
+
+one_less : (i n : ℕ) → i < n → n - i ≡ suc (n - (i + 1))
+one_less i n h = omega arith
+
+-- at a word that passes, at one that fails, and behind the last
+pub failing_more : (number : ℕ) (test : ℕ → Bool) (i n : ℕ) → i < n → test i ≡ true → first_failing number test i (n - i) ≡ first_failing number test (i + 1) (n - (i + 1))
+failing_more number test i n h e =
+    ap (first_failing number test i) (one_less i n h)
+    ∙ cond-true (test i) (first_failing number test (i + 1) (n - (i + 1))) (Some (number, i)) e
+
+pub failing_here : (number : ℕ) (test : ℕ → Bool) (i n : ℕ) → i < n → test i ≡ false → first_failing number test i (n - i) ≡ Some (number, i)
+failing_here number test i n h e =
+    ap (first_failing number test i) (one_less i n h)
+    ∙ cond-false (test i) (first_failing number test (i + 1) (n - (i + 1))) (Some (number, i)) e
+
+pub failing_none : (number : ℕ) (test : ℕ → Bool) (i n : ℕ) → n ≤ i → first_failing number test i (n - i) ≡ None
+failing_none number test i n h = let z : n - i ≡ 0 = omega arith in ap (first_failing number test i) z
 
 pub none_fails : (number : ℕ) (test : ℕ → Bool) (a n : ℕ) → ((i : ℕ) → a ≤ i → i < a + n → test i ≡ true) → first_failing number test a n ≡ None
 none_fails number test a zero h = refl

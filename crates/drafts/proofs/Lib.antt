@@ -3,6 +3,7 @@ pub mod Codes
 pub mod Likeness
 pub mod Pairing
 pub mod Preparing
+pub mod Sameness
 pub mod Values
 pub mod Walks
 pub mod Words

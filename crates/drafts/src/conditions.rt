@@ -1,4 +1,5 @@
 // Two lists of values, compared as sets. Loops, since of `any` and `all` over a range the closure's answer of a table is lost to the proof.
+// Each reads a list to its end, so that its length, which costs as much as an entry, is not asked too.
 // Lists in memory have loops of their own (draft/lists.rt): hot loops run over plain slices.
 ghost use Rattle.std.specs.Prelude.{◌≡◌};
 ghost use Rattle.drafts.specs.Conditions.{shares, within, equals};
@@ -9,10 +10,12 @@ use tables::{Table, ValueList};
 pub fn share<L: Table, R: Table>(left: &ValueList<'_, L>, right: &ValueList<'_, R>) -> bool
     ensures { result ≡ shares ((L.Table.meaning left.now.table.now).values left.now.subject left.now.property) ((R.Table.meaning right.now.table.now).values right.now.subject right.now.property) }
 {
-    for i in 0..left.len() {
-        if right.contains(left.get(i).unwrap()) {
+    let mut i = 0;
+    while let Some(v) = left.get(i) {
+        if right.contains(v) {
             return true;
         }
+        i += 1;
     }
     false
 }
@@ -28,10 +31,12 @@ pub fn equal<L: Table, R: Table>(left: &ValueList<'_, L>, right: &ValueList<'_, 
 fn lie_within<L: Table, R: Table>(left: &ValueList<'_, L>, right: &ValueList<'_, R>) -> bool
     ensures { result ≡ within ((L.Table.meaning left.now.table.now).values left.now.subject left.now.property) ((R.Table.meaning right.now.table.now).values right.now.subject right.now.property) }
 {
-    for i in 0..left.len() {
-        if !right.contains(left.get(i).unwrap()) {
+    let mut i = 0;
+    while let Some(v) = left.get(i) {
+        if !right.contains(v) {
             return false;
         }
+        i += 1;
     }
     true
 }

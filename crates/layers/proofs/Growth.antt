@@ -1,5 +1,5 @@
 -- One more folding at the end of a list keeps what a folding list keeps.
-use Rattle.std.proofs.Common.{◌≡◌, ℕ, ◌^◌, ◌<◌, true, false, not, ◌||◌, eqb, ltb, List, [], ◌∷◌, ◌++◌, length, None, refl, arith}
+use Rattle.std.proofs.Common.{◌≡◌, ℕ, ◌^◌, ◌<◌, Bool, true, false, not, ◌||◌, eqb, ltb, List, [], ◌∷◌, ◌++◌, length, get_or, None, refl, arith}
 use Rattle.std.specs.List.{list_all}
 use Rattle.std.specs.List.Sorted.{IsStrictlyIncreasing}
 use Rattle.std.proofs.lemmas.Bool.Decides.{nat_tests}
@@ -10,16 +10,20 @@ use Rattle.layers.specs.declared.folding_list.Folding.{Folding}
 use Rattle.layers.specs.Foldings.{froms, tos, above_all, folding, folding_fault, chain_free, four_byte_tos}
 use Rattle.tables.specs.Meaning.{contains}
 
+-- where each passes, the one at a place does
+pub all_pass_get_or : {X : Type 0} (p : X → Bool) (xs : List X) (i : ℕ) (d : X) → list_all p xs ≡ true → i < length xs → p (get_or xs i d) ≡ true
+all_pass_get_or p xs i d h l = AllPass-from_list_all p xs h i d l
+
 contains_push : (xs : List ℕ) (n v : ℕ) → contains (xs ++ n ∷ []) v ≡ (contains xs v || eqb n v)
 contains_push [] n v = grind (arith, nat_tests)
 contains_push (x ∷ xs) n v = grind (arith, nat_tests, contains_push xs n v)
 
 -- values that are not in a list are not in it with one more, unless they are that one
-apart_push : (xs ts : List ℕ) (n : ℕ) → list_all (λ t. not (contains xs t)) ts ≡ true → contains ts n ≡ false → list_all (λ t. not (contains (xs ++ n ∷ []) t)) ts ≡ true
+pub apart_push : (xs ts : List ℕ) (n : ℕ) → list_all (λ t. not (contains xs t)) ts ≡ true → contains ts n ≡ false → list_all (λ t. not (contains (xs ++ n ∷ []) t)) ts ≡ true
 apart_push xs [] n h e = refl
 apart_push xs (t ∷ ts) n h e = grind (arith, common_steps, nat_tests, contains_push, apart_push xs ts n)
 
-climbs_push : (xs : List ℕ) (n : ℕ) → IsStrictlyIncreasing xs → above_all xs n ≡ true → IsStrictlyIncreasing (xs ++ n ∷ [])
+pub climbs_push : (xs : List ℕ) (n : ℕ) → IsStrictlyIncreasing xs → above_all xs n ≡ true → IsStrictlyIncreasing (xs ++ n ∷ [])
 climbs_push xs n h above k l = grind (arith, common_steps, nat_tests, h k, AllPass-from_list_all (λ x. ltb x n) xs above)
 
 module _ (es : List Folding) (a b : ℕ) where

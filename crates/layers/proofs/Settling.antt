@@ -8,19 +8,19 @@ use Rattle.layers.specs.Laws.{FoldingSettles}
 use Rattle.tables.specs.Meaning.{contains}
 
 -- a value that is not folded stays
-becomes_itself : (es : List Folding) (v : ℕ) → contains (froms es) v ≡ false → becomes es v ≡ v
+pub becomes_itself : (es : List Folding) (v : ℕ) → contains (froms es) v ≡ false → becomes es v ≡ v
 becomes_itself [] v h = refl
 becomes_itself (e ∷ es) v h = grind (arith, nat_tests, becomes_itself es v)
 
 -- a value stays, or becomes one of the values that the entries give
-becomes_cases : (P : ℕ → Bool) (es : List Folding) (v : ℕ) → list_all P (tos es) ≡ true → (becomes es v ≡ v) ⊎ (P (becomes es v) ≡ true)
+pub becomes_cases : (P : ℕ → Bool) (es : List Folding) (v : ℕ) → list_all P (tos es) ≡ true → (becomes es v ≡ v) ⊎ (P (becomes es v) ≡ true)
 becomes_cases P [] v h = inl refl
 becomes_cases P (e ∷ es) v h = grind (arith, nat_tests, becomes_cases P es v)
 
-becomes_twice : (es : List Folding) (v : ℕ) → chain_free es ≡ true → becomes es (becomes es v) ≡ becomes es v
+pub becomes_twice : (es : List Folding) (v : ℕ) → chain_free es ≡ true → becomes es (becomes es v) ≡ becomes es v
 becomes_twice es v h = grind (arith, becomes_cases (λ u. not (contains (froms es) u)) es v h, becomes_itself es (becomes es v), ap (becomes es))
 
-map_twice : {X : Type 0} (f : X → X) → ((x : X) → f (f x) ≡ f x) → (xs : List X) → map f (map f xs) ≡ map f xs
+pub map_twice : {X : Type 0} (f : X → X) → ((x : X) → f (f x) ≡ f x) → (xs : List X) → map f (map f xs) ≡ map f xs
 map_twice f h [] = refl
 map_twice f h (x ∷ xs) = grind (arith, h x, map_twice f h xs)
 

@@ -137,7 +137,7 @@ module _ {C : Type 0} (l : Listing C) where
       not_empty (x ∷ xs) h = refl
 
   -- as many links are told of a code as it has
-  body_links : (x : ℕ) (r : Candidate) → r ≡ candidate_body (relation_of l) x → r.links ≡ length (links (relation_of l) x)
+  pub body_links : (x : ℕ) (r : Candidate) → r ≡ candidate_body (relation_of l) x → r.links ≡ length (links (relation_of l) x)
   unfolding candidate_body
   body_links x r e = ap (λ (b : Candidate). b.links) e
 
@@ -170,7 +170,7 @@ module _ {C : Type 0} (l : Listing C) where
   pub level_ended : ltb (candidate_count (relation_of l)) (level l) ≡ l.tally.ended
   level_ended = (level_by l.tally.ended refl).1
 
-  level_capped : level l ≤ candidate_count (relation_of l) + 1
+  pub level_capped : level l ≤ candidate_count (relation_of l) + 1
   level_capped = by l.tally.ended
     where
       by : (b : Bool) → l.tally.handed + cond b 1 0 ≤ candidate_count (relation_of l) + 1

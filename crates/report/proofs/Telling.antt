@@ -76,7 +76,7 @@ reads_candidate c x b e =
     ap (λ (v : List ℕ). read_answer candidate_of any_body 32 v 0) e ∙ ap {B = Result Candidate Refusal} Ok (ap candidate_of (fields_in_bytes fs) ∙ body_back (candidate_body c x))
 
 -- past the end the total is told
-total_told : (c : Relation) (w : ℕ) (n : Refusal) (b : List ℕ) → candidate_count c < w → refused n b ≡ reply c w total_now → ⊥
+pub total_told : (c : Relation) (w : ℕ) (n : Refusal) (b : List ℕ) → candidate_count c < w → refused n b ≡ reply c w total_now → ⊥
 unfolding reply
 total_told c w n b h e =
     let told = e ∙ ap (λ (t : Bool). cond t (totalled (candidate_count c)) (refused (28, 0) [])) (lt-ltb (candidate_count c) w h) in

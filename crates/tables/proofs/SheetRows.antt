@@ -1,8 +1,15 @@
 -- The words of a tick sheet, one subject after another.
-use Rattle.std.proofs.Common.{◌≡◌, ℕ, ◌+◌, ◌-◌, ◌*◌, ◌<◌, ◌≤◌, List, ◌++◌, length, take, drop, sym, ap, ◌∙◌, arith, ⊎_elim, length-append, add-mul, one-mul, zero-mul}
-use Rattle.std.proofs.lemmas.List.{take_at, drop_at, drop-drop}
-use Rattle.std.proofs.lemmas.Bool.{cases_lt}
-use Rattle.tables.specs.TickSheet.{row}
+use Rattle.std.proofs.Common.{◌≡◌, ℕ, ◌+◌, ◌-◌, ◌*◌, ◌<◌, ◌≤◌, Bool, false, ◌&&◌, List, ◌++◌, length, take, drop, ◌≢◌, slice_index, sym, ap, ◌∙◌, arith, ⊎_elim, length-append, add-mul, one-mul, zero-mul}
+use Rattle.std.proofs.lemmas.List.{at_drop_more, take_at, drop_at, drop-drop}
+use Rattle.std.proofs.lemmas.Bool.{cases_lt, eq-eqb, ne_eqb}
+use Rattle.tables.specs.TickSheet.{row, all_zero}
+
+-- words from i on that are to be 0: at one that is not, and at one that is
+pub zero_here : (ws : List ℕ) (i : ℕ) → i < length ws → (slice_index ws i ≢ 0) → all_zero (drop i ws) ≡ false
+zero_here ws i l e = at_drop_more all_zero ws i 0 l ∙ ap (λ (b : Bool). b && all_zero (drop (i + 1) ws)) (ne_eqb _ _ e)
+
+pub zero_next : (ws : List ℕ) (i : ℕ) → i < length ws → slice_index ws i ≡ 0 → all_zero (drop i ws) ≡ all_zero (drop (i + 1) ws)
+zero_next ws i l e = at_drop_more all_zero ws i 0 l ∙ ap (λ (b : Bool). b && all_zero (drop (i + 1) ws)) (eq-eqb _ _ e)
 
 -- what is left before subject s of n with m properties, in parts of a size
 pub record Left (ws : List ℕ) (n m s size : ℕ) (rest : List ℕ) : Type 0 where

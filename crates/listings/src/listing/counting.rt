@@ -66,5 +66,6 @@ fn count_set(marks: &[bool]) -> u32
     requires { length marks.now ≤ 2048 }
     ensures { result ≡ marks_set marks.now }
 {
-    marks.iter().filter(|mark| **mark).count() as u32
+    // As a sum and no `filter` and `count`: these take one mark at a time, and a take counts 4,096 of them at least.
+    marks.iter().map(|mark| u32::from(*mark)).sum()
 }

@@ -55,6 +55,8 @@ fn distinct_codes(heap: Global, pairs: &[CodedPair]) -> Result<Vec<u64>, AllocEr
     let mut codes = codes(heap, pairs)?;
     codes.sort_unstable();
     codes.dedup();
+    // The listing keeps the codes, and not the room for the pairs that they came from.
+    codes.shrink_to_fit();
     Ok(codes)
 }
 

@@ -32,5 +32,9 @@ pub(super) fn tick_count(word: u64) -> usize
 pub(super) fn tick_at(word: u64, i: usize) -> Option<u32>
     ensures { result ≡ slice_get (ticked word) i }
 {
+    // Lists are read to their end, and there the word need not be walked through.
+    if i >= tick_count(word) {
+        return None;
+    }
     (0..TICKS).filter(|value| (word >> *value) % 2 == 1).nth(i)
 }
